@@ -1,5 +1,5 @@
 //! Which lines are words of the shell's own.
-ghost use Rattle.std.specs.Prelude.{◌≡◌, [], ◌∷◌};
+ghost use Rattle.std.specs.Prelude.{◌≡◌};
 ghost use Rattle.std.specs.Str.Lines.{strip_carriage_return};
 ghost use Rattle.script_reader.specs.Lines.{fields_of};
 ghost use Rattle.fleet_shell.specs.Kinds.{kind_of, kind_of_fields, kind_of_word};

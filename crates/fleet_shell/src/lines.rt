@@ -1,5 +1,5 @@
 //! The lines that were taken, and the fleet that shows their run.
-ghost use Rattle.std.specs.Prelude.{◌≡◌, ◌≢◌, ◌≤◌, ◌<◌, ◌-◌, ℕ, List, None, Some, drop, length, slice_index, IfErr, IfOk, IfSome, MatchOption, OnErr, OnOk};
+ghost use Rattle.std.specs.Prelude.{◌≡◌, ◌≢◌, ◌≤◌, ◌<◌, ◌-◌, ℕ, None, Some, drop, length, slice_index, IfErr, IfOk, MatchOption, OnErr, OnOk};
 ghost use Rattle.std.specs.Io.KnownBytes.{Appends};
 ghost use Rattle.live_script.specs.Printed.{IsPrinted};
 ghost use Rattle.live_script.specs.Refused.{IsOfFault, IsWhy};

@@ -17,7 +17,7 @@ use Rattle.photo_device.specs.Device.{Kept, Shows}
 use Rattle.fleet_model.specs.declared.command.Command.{Command}
 use Rattle.photo_script.specs.declared.report.Report.{Report}
 use Rattle.fleet_model.specs.Contents.{Contents, IsScript, command_of, devices_of, IsWithin}
-use Rattle.fleet_model.specs.Runs.{effect, device_at, with_second, run_in_order}
+use Rattle.fleet_model.specs.Runs.{device_at, with_second, run_in_order}
 use Rattle.photo_batcher.specs.Related.{is_device, works_on, uses, AreRelated}
 use Rattle.photo_batcher.proofs.Exchange.{used}
 use Rattle.photo_batcher.specs.Orders.{times}

@@ -1,5 +1,5 @@
 // Runs one batch: deals it to workers, and puts their results back.
-ghost use Rattle.std.specs.Prelude.{◌≡◌, ◌⊎◌, ◌-◌, ◌<◌, ◌≤◌, ◌++◌, ℕ, List, Some, length, map, slice_set};
+ghost use Rattle.std.specs.Prelude.{◌≡◌, ◌⊎◌, ◌-◌, ◌<◌, ◌≤◌, ◌++◌, ℕ, List, Some, length, slice_set};
 ghost use Rattle.std.specs.Prelude.{IsPermutation, IfSome, IfOk, IfErr, OnOk, ◌∷◌, []};
 ghost use Rattle.std.specs.Arc.{arc_value};
 ghost use Rattle.std.specs.List.{AllByRecursion};

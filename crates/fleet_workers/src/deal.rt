@@ -1,5 +1,5 @@
 // Deals a batch to workers: each job has a command's number and the devices on which the command works.
-ghost use Rattle.std.specs.Prelude.{◌≡◌, ◌≢◌, ◌<◌, ◌∷◌, ◌++◌, []};
+ghost use Rattle.std.specs.Prelude.{◌≡◌, ◌<◌, []};
 ghost use Rattle.std.specs.Prelude.{ℕ, List, Option, Some, None, true, length, map, replicate, IsSome, IfSome, IfOk};
 ghost use Rattle.std.specs.Prelude.{OnOk, slice_index_or, slice_set};
 ghost use Rattle.std.specs.List.{AllByRecursion};

@@ -33,7 +33,7 @@ impl Model for FragmentArena {
 
 impl FragmentArena {
     ghost use Rattle.std.specs.Prelude.{◌≡◌, ◌+◌, ◌-◌, ◌^◌, ◌<◌, ◌≤◌, ◌&&◌, nat_le, nat_lt, [], ◌∷◌, ◌++◌};
-    ghost use Rattle.std.specs.Prelude.{ℕ, max, length, get_or, IfOk, IfSome, OnOk, OnErr};
+    ghost use Rattle.std.specs.Prelude.{max, length, get_or, IfOk, IfSome, OnOk, OnErr};
     ghost use Rattle.fragment_arena.specs.Arena.{arena, run, words_in};
 
     /// An arena without rows and without reserved capacity. Takes no memory.

@@ -1,15 +1,13 @@
 -- Machinery of the proofs: what holds while a union is written.
-use Rattle.std.specs.Prelude.{◌≡◌, ℕ, ◌*◌, ◌≤◌, true, List, [], ◌++◌, length}
+use Rattle.std.specs.Prelude.{◌≡◌, ℕ, ◌*◌, ◌≤◌, List, [], ◌++◌, length}
 use Rattle.fragment_arena.specs.Arena.{run}
 use Rattle.item_knowledge.specs.DistinctUnion.{singles, spread_of, IsSpread}
 use Rattle.item_knowledge.specs.Entries.{Entry}
-use Rattle.item_knowledge.specs.Excess.{exceeding, union_vector}
+use Rattle.item_knowledge.specs.Excess.{union_vector}
 use Rattle.item_knowledge.specs.Fragments.{Fragment}
 use Rattle.item_knowledge.specs.declared.picture_cursor.PictureCursor.{PictureCursor}
-use Rattle.item_knowledge.specs.declared.operand.Operand.{Operand}
 use Rattle.item_knowledge.specs.PictureCursor.{left_of}
-use Rattle.item_knowledge.specs.Rows.{pairs, fragments_of}
-use Rattle.item_knowledge.specs.Tables.{in_order}
+use Rattle.item_knowledge.specs.Rows.{fragments_of}
 
 -- a union that is written in part: the written fragments, then a run of the left's that is still to be written, then the rest
 pub record IsWrittenUpTo (left right : List (List ℕ)) (xs ys : List (ℕ × ℕ)) (star : List Entry) (out : List (List ℕ)) (index joined : List (ℕ × ℕ)) (at : PictureCursor) (from to : ℕ) : Type 0 where

@@ -4,7 +4,6 @@ ghost use Rattle.std.specs.Prelude.{◌≡◌, ◌+◌, ◌*◌, ◌<◌, ◌≤
 ghost use Rattle.fragment_arena.specs.Arena.{run};
 ghost use Rattle.item_knowledge.specs.DistinctUnion.{Stays, AreThere, AreOthers, AreAllDistinct, IsSpread, spread_of};
 ghost use Rattle.item_knowledge.specs.Excess.{AllDiffer, exceeding, exceeds_all, is_covered};
-ghost use Rattle.item_knowledge.specs.Fragments.{entries_at};
 ghost use Rattle.item_knowledge.specs.BoundFilter.{AreMarked};
 ghost use Rattle.item_knowledge.specs.VectorIndex.{IsIndexed};
 ghost use Rattle.item_knowledge.specs.Written.{IsWritten};

@@ -1,5 +1,5 @@
 // A binary search, for a picture in an index and for an author in a row.
-ghost use Rattle.std.specs.Prelude.{◌≡◌, ◌<◌, ◌≤◌, true, length, get_or};
+ghost use Rattle.std.specs.Prelude.{◌≡◌, ◌<◌, true, length, get_or};
 ghost use Rattle.item_knowledge.specs.Tables.{in_order, at};
 ghost use Rattle.item_knowledge.specs.Entries.{bound};
 ghost use Rattle.item_knowledge.specs.Rows.{pairs, IsRow, IsPlaceOf};

@@ -1,5 +1,5 @@
 -- When a session refuses a call, and with which fault.
-use Rattle.std.specs.Prelude.{◌≡◌, ◌≢◌, ◌<◌, ◌≤◌, ◌+◌, ◌↔◌, ℕ, length, Result, Err}
+use Rattle.std.specs.Prelude.{◌≡◌, ◌≢◌, ◌<◌, ◌≤◌, ◌↔◌, ℕ, length, Result, Err}
 use Rattle.fleet_model.specs.declared.command.Command.{Command}
 use Rattle.fleet_model.specs.Contents.{Contents, IsWithin}
 use Rattle.live_fleet.specs.Fleets.{KeptFleet}

@@ -1,5 +1,5 @@
 //! Several lines at once, which are all taken or none.
-ghost use Rattle.std.specs.Prelude.{◌≡◌, ◌-◌, List, ℕ, drop, length, string_bytes, IfOk, IfErr};
+ghost use Rattle.std.specs.Prelude.{◌≡◌, ◌-◌, drop, string_bytes, IfOk, IfErr};
 ghost use Rattle.live_script.specs.Live.{IsTold, with_line};
 ghost use Rattle.live_script.specs.Printed.{IsPrinted};
 ghost use Rattle.live_script.specs.Refused.{IsOfFault};

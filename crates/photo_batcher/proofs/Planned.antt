@@ -1,10 +1,10 @@
 -- A plan with one more command.
-use Rattle.std.proofs.Common.{◌≡◌, ◌≢◌, ℕ, zero, suc, ◌+◌, ◌-◌, ◌<◌, ◌≤◌, max, true, false, cond, List, [], ◌∷◌, ◌++◌, length, get_or, set, inl, inr, refl, sym, ap, ◌∙◌, subst, length-append, length-set, get_or-set_other, get_or-set_same, arith}
-use Rattle.std.specs.Prelude.{Option, Some, None, IfSome, slice_index, slice_get, nat_lt, replicate}
+use Rattle.std.proofs.Common.{◌≡◌, ℕ, zero, suc, ◌+◌, ◌-◌, ◌<◌, ◌≤◌, max, true, false, cond, List, [], ◌∷◌, ◌++◌, length, get_or, set, inl, inr, refl, sym, ap, ◌∙◌, subst, length-append, length-set, get_or-set_other, get_or-set_same, arith}
+use Rattle.std.specs.Prelude.{Option, Some, None, IfSome, slice_index, nat_lt, replicate}
 use Rattle.std.proofs.lemmas.List.{get_or_append_left, get_or_at, get_or-replicate, length-replicate}
 use Rattle.std.proofs.lemmas.Bool.{cases_order, cases_eq, cases_Bool, both_ways}
 use Rattle.fleet_model.specs.declared.command.Command.{Command}
-use Rattle.fleet_model.specs.Contents.{Contents, command_of, devices_of, IsWithin}
+use Rattle.fleet_model.specs.Contents.{Contents, command_of, devices_of}
 use Rattle.photo_batcher.specs.Related.{IsNumber, works_on, uses}
 use Rattle.photo_batcher.specs.Batches.{IsAfter}
 use Rattle.photo_batcher.specs.Greedy.{last_on, last_on_second, free_behind, first_free, before_it}

@@ -1,9 +1,9 @@
 // Plans: batches, the command after which each command goes, and chains.
-ghost use Rattle.std.specs.Prelude.{◌≡◌, ◌<◌, ◌≤◌, ◌-◌, ◌++◌, ℕ, length, IfSome, IfOk, Some, slice_get, slice_index};
+ghost use Rattle.std.specs.Prelude.{◌≡◌, ◌<◌, ◌≤◌, ◌-◌, length, IfSome, IfOk, Some, slice_get};
 ghost use Rattle.fleet_model.specs.Contents.{Contents};
 ghost use Rattle.fleet_model.specs.Limits.{max_commands};
 ghost use Rattle.photo_batcher.specs.Batches.{IsFollowed, IsLongestChainTo};
-ghost use Rattle.photo_batcher.specs.Plans.{entry_of, batch_in, after_in, IsShaped, IsPlan};
+ghost use Rattle.photo_batcher.specs.Plans.{batch_in, after_in, IsShaped, IsPlan};
 
 use std::alloc::{AllocError, Global};
 use std::marker::Model;

@@ -70,7 +70,7 @@ impl Device {
     ghost use Rattle.photo_model.specs.Entry.{find_entry};
     ghost use Rattle.photo_device.specs.Held.{are_in_order, find_version, find_version_of, has_picture, count_of, versions_of};
     ghost use Rattle.photo_device.specs.Held.{entry_of, entries_of};
-    ghost use Rattle.photo_device.specs.Own.{HasEarlier, HasMade, IsDevice, IsKnownBy, IsNext, KnowsItsOwn, KnowsNoMore};
+    ghost use Rattle.photo_device.specs.Own.{HasMade, IsDevice, IsKnownBy, IsNext, KnowsItsOwn};
     ghost use Rattle.photo_device.specs.Staging.{HasStaged, MayHand, MayStage, gained, versions_in};
     ghost use Rattle.photo_version.specs.Author.{epoch_of_author};
     ghost use Rattle.photo_version.specs.Version as versions;

@@ -1,5 +1,5 @@
 // How versions come into the store and the out of a device.
-ghost use Rattle.std.specs.Prelude.{◌≡◌, ◌++◌, true, false, [], ◌∷◌, length, IfOk, OnOk, OnErr};
+ghost use Rattle.std.specs.Prelude.{◌≡◌, ◌++◌, true, false, [], ◌∷◌, IfOk, OnOk, OnErr};
 ghost use Rattle.photo_device.specs.Staging.{IsRoomFor};
 ghost use Rattle.photo_device.specs.Taking.{is_on_side, with_side, AreNewTo, HasRoomFor, HasTaken, MayTake};
 

@@ -1,5 +1,5 @@
 //! Filters: building, matching and covering.
-ghost use Rattle.std.specs.Prelude.{◌≡◌, ◌↔◌, length, IfOk, IfErr, OnOk, true, false};
+ghost use Rattle.std.specs.Prelude.{◌≡◌, length, IfOk, IfErr, OnOk, true, false};
 ghost use Rattle.photo_filter_text.specs.Tree.{tree_of};
 ghost use Rattle.photo_filter_rules.specs.declared.polarity.Polarity.TheVariants.{Plain};
 ghost use Rattle.photo_filter_rules.specs.Matching.{matches};

@@ -1,5 +1,5 @@
 //! The tree of a filter.
-ghost use Rattle.std.specs.Prelude.{◌≡◌, ℕ, ◌≤◌, IsTrue, ◌↔◌, IfOk};
+ghost use Rattle.std.specs.Prelude.{◌≡◌, ◌≤◌, IsTrue, ◌↔◌, IfOk};
 ghost use Rattle.photo_filter_text.specs.Tree.{tree_of, height, Not, Both, Either};
 
 use photo_record::{Day, Rating, Word};

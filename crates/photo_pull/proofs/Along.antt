@@ -1,5 +1,5 @@
 -- Tests of held versions in order, from a place on, and what a test finds of a list.
-use Rattle.std.proofs.Common.{◌≡◌, ℕ, zero, suc, ◌-◌, ◌+◌, ltb, ◌<◌, ◌≤◌, Bool, true, false, ◌&&◌, List, [], ◌∷◌, ◌++◌, append-nil, length, get_or, take, drop, refl, sym, ap, ◌∙◌, arith}
+use Rattle.std.proofs.Common.{◌≡◌, ℕ, zero, suc, ◌-◌, ◌+◌, ltb, ◌<◌, ◌≤◌, Bool, true, false, ◌&&◌, ◌||◌, List, [], ◌∷◌, ◌++◌, append-nil, length, get_or, take, drop, refl, sym, ap, ◌∙◌, arith}
 use Rattle.std.specs.Prelude.{filter}
 use Rattle.std.specs.List.{list_all, list_any}
 use Rattle.std.proofs.lemmas.Bool.Decides.{nat_tests}
@@ -10,7 +10,8 @@ use Rattle.photo_device.specs.declared.held.Held.{Held}
 use Rattle.photo_device.specs.Held.{are_in_order, held_before}
 use Rattle.photo_device.proofs.Order.{rises, in_order-filter}
 use Rattle.photo_device.proofs.Putting.{any_counted}
-use Rattle.photo_pull.specs.OnHeld.{has_above, has_below}
+use Rattle.photo_device.specs.declared.change.Selection.{Selection}
+use Rattle.photo_pull.specs.OnHeld.{has_above, has_below, selection_above}
 
 -- what stands before a place is passed, where none of it passes a test
 pub none_before : (f : Held → Bool) (xs : List Held) (k : ℕ) → ((i : ℕ) (d : Held) → i < k → f (get_or xs i d) ≡ false) → filter f (drop k xs) ≡ filter f xs
@@ -35,6 +36,18 @@ above_none xs k w h order within is greater = none_from _ xs k w order within is
 
 pub below_none : (xs : List Held) (k : ℕ) (w h : Held) → are_in_order xs ≡ true → k < length xs → w ≡ get_or xs k w → h.picture < w.picture → has_below (drop k xs) h ≡ false
 below_none xs k w h order within is greater = none_from _ xs k w order within is (λ x le. grind (arith, nat_tests))
+
+-- a selection of no version supersedes nothing
+
+nil : (hs : List Held) → length hs ≡ 0 → hs ≡ []
+nil [] none = refl
+nil (h ∷ hs) none = absurd (omega (arith, none))
+
+pub none_above : (some : Selection) (hs : List Held) → length some.stored.items ≡ 0 → length some.waiting.items ≡ 0 → filter (selection_above some) hs ≡ []
+none_above some [] s w = refl
+none_above some (h ∷ hs) s w =
+    let none : selection_above some h ≡ false = λ i. has_above (nil some.stored.items s i) h || has_above (nil some.waiting.items w i) h in
+    rw none (none_above some hs s w)
 
 -- two lists one after the other are in order where each is, and all of the first stand before all of the second
 pub order_append : (xs ys : List Held) → are_in_order (xs ++ ys) ≡ (list_all (λ x. list_all (held_before x) ys) xs && (are_in_order xs && are_in_order ys))

@@ -4,6 +4,7 @@ ghost use Rattle.photo_pull.specs.Findings.{AreNews, IsDelta, IsSomething};
 
 use crate::PullCounts;
 use crate::filtered::{count_of, dropped_of, heard_of};
+use crate::selection::is_empty;
 use item_knowledge::Knowledge;
 use photo_device::{Device, Selection, SharedHeld};
 use photo_filter_rules::covers;
@@ -74,8 +75,7 @@ impl PullDelta {
         ensures nothing { result ≡ true → IsNothing self.now known.now taught.now }
         ensures something { result ≡ false → IsNothing self.now known.now taught.now → ⊥ }
     {
-        let none_dropped = self.dropped.stored.is_empty() && self.dropped.waiting.is_empty();
         let none_heard = self.heard.is_empty() && self.handed.is_empty();
-        none_dropped && none_heard && (!self.learned || known.has_all(taught))
+        is_empty(&self.dropped) && none_heard && (!self.learned || known.has_all(taught))
     }
 }

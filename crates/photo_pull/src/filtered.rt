@@ -6,7 +6,7 @@ ghost use Rattle.photo_device.specs.Held.{are_in_order};
 ghost use Rattle.photo_pull.specs.OnHeld.{is_gone, is_selected, has_same, selection_above, selection_below, IsOrdered, IsQuiet, HasPassed};
 
 use crate::quiet_range::QuietRange;
-use crate::selection::{has_above, has_below};
+use crate::selection::{has_above, has_below, is_empty};
 use crate::set_cursor::SetCursor;
 use crate::superseding::without_news;
 use photo_device::{Device, HeldSet, Selection, SharedHeld};
@@ -84,8 +84,8 @@ fn push_superseded(
     Ok(())
 }
 
-// Copies of those versions of a set that news supersedes.
-#[tactic(auto, using(std::proofs::lemmas::Grind::common_steps, crate::proofs::Along::filtered_in_order, crate::proofs::Along::order_append))]
+// Copies of those versions of a set that news supersedes. Without news it doesn't visit the set.
+#[tactic(auto, using(std::proofs::lemmas::Grind::common_steps, crate::proofs::Along::none_above, crate::proofs::Along::filtered_in_order, crate::proofs::Along::order_append))]
 fn superseded_of(
     alloc: Global,
     news: &Selection,
@@ -97,6 +97,9 @@ fn superseded_of(
     ensures err { OnErr result (list_any (selection_above news.now) set.now ≡ true) }
 {
     let mut found = Vec::new(alloc);
+    if is_empty(news) {
+        return Ok(found);
+    }
     let mut quiet = QuietRange::none();
     for block in set.blocks() {
         push_superseded(&mut found, news, &mut quiet, block)?;

@@ -1,11 +1,18 @@
 // Searches in a selection of held versions.
-ghost use Rattle.std.specs.Prelude.{◌≡◌};
+ghost use Rattle.std.specs.Prelude.{◌≡◌, ◌&&◌, ◌==◌, length};
 ghost use Rattle.photo_pull.specs.OnHeld.{IsOrdered, selection_above, selection_below, IsQuiet};
 
 use crate::quiet_range::QuietRange;
 use crate::superseding::{any_above, any_below, first_of, picture_at};
 use photo_device::{Selection, SharedHeld};
 use photo_record::PicNo;
+
+/// Whether the selection has no version.
+pub(crate) fn is_empty(some: &Selection) -> bool
+    ensures { result ≡ ((length some.now.stored.items == 0) && (length some.now.waiting.items == 0)) }
+{
+    some.stored.is_empty() && some.waiting.is_empty()
+}
 
 // The quiet range from a picture on: the last one if it begins there, else one that a search finds.
 fn quiet_at(some: &Selection, last: QuietRange, picture: PicNo) -> QuietRange

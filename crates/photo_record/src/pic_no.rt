@@ -1,5 +1,5 @@
 //! Picture numbers.
-ghost use Rattle.std.specs.Prelude.{◌≡◌, ℕ, ◌≤◌};
+ghost use Rattle.std.specs.Prelude.{◌≡◌, ℕ};
 ghost use Rattle.std.specs.Option.{SomeIff};
 ghost use Rattle.photo_record.specs.Limits.{IsPicNo};
 

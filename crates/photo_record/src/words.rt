@@ -1,5 +1,5 @@
 //! Sets of words.
-ghost use Rattle.std.specs.Prelude.{◌≡◌, ℕ, true, ◌<◌, ◌≤◌, List, [], length, slice_get, Some, IfOk, IfErr, Ok, Err, IsTrue, ◌↔◌, ◌≢◌};
+ghost use Rattle.std.specs.Prelude.{◌≡◌, ℕ, ◌<◌, List, [], length, slice_get, Some, IfOk, IfErr, Ok, Err, IsTrue, ◌↔◌, ◌≢◌};
 ghost use Rattle.std.specs.Cmp as laws;
 ghost use Rattle.std.specs.Cmp.Lexicographic.{lists_per, lists_equiv, nat_list_eq_equiv};
 ghost use Rattle.photo_record.specs.Word.{IsWordSet, has_word, same_words};

@@ -1,5 +1,5 @@
 // The totals of a run, from its reports.
-ghost use Rattle.std.specs.Prelude.{◌≡◌, ◌≤◌, ◌*◌, length, map};
+ghost use Rattle.std.specs.Prelude.{◌≡◌, ◌≤◌, length, map};
 ghost use Rattle.std.specs.List.{AllByRecursion, AllZip, sum_by};
 ghost use Rattle.fleet_model.specs.Limits.{max_commands};
 ghost use Rattle.photo_script.specs.Reports.{Tells, answer_of};

@@ -1,5 +1,5 @@
 // Vectors as slices of bounds, in the order of authors.
-ghost use Rattle.std.specs.Prelude.{◌≡◌, ◌++◌, true, ◌<◌, drop, IfOk, IfSome, OnOk};
+ghost use Rattle.std.specs.Prelude.{◌≡◌, true, ◌<◌, IfOk, IfSome};
 ghost use Rattle.photo_version.specs.Version.{Version};
 ghost use Rattle.photo_version.specs.Vector as spec;
 

@@ -1,5 +1,5 @@
 //! Tells why a call gives no texts of reports.
-ghost use Rattle.std.specs.Prelude.{◌≡◌, List, ℕ};
+ghost use Rattle.std.specs.Prelude.{◌≡◌};
 ghost use Rattle.photofleet_c.specs.Lines.{line_of};
 ghost use Rattle.photofleet_c.specs.Placed.{IsOffered};
 ghost use Rattle.photofleet_c.specs.Statuses.{status_of};

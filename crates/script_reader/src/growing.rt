@@ -3,7 +3,7 @@ ghost use Rattle.std.specs.Prelude.{◌≡◌, ◌≢◌, ◌≤◌, ◌==◌, �
 ghost use Rattle.std.specs.List.{list_any};
 ghost use Rattle.fleet_model.specs.Contents.{Contents};
 ghost use Rattle.script_reader.specs.Limits.{max_text_bytes, max_line_bytes};
-ghost use Rattle.script_reader.specs.Lines.{fields_of, lines_of, pieces_of};
+ghost use Rattle.script_reader.specs.Lines.{fields_of, pieces_of};
 ghost use Rattle.script_reader.specs.Growing.{Adds, GoesBackTo, Grows, IsGrown, ReadsLine, script_in, with_line};
 ghost use Rattle.script_reader.specs.Reading.{script_of, MayWantMemory};
 ghost use Rattle.script_reader.specs.declared.refusal.Refusal.TheVariants.{Memory};

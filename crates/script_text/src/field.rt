@@ -1,7 +1,5 @@
 // The fields of a line.
 ghost use Rattle.std.specs.Prelude.{◌≡◌, ◌<◌, ◌++◌, ◌∷◌, [], string_bytes, OnOk};
-ghost use Rattle.std.specs.Fmt.{decimal};
-ghost use Rattle.photo_record.specs.Limits.{IsDay};
 ghost use Rattle.photo_record.specs.Showing.{words_text};
 ghost use Rattle.photo_filter_text.specs.Printed.{date_text, digit, two_digits};
 ghost use Rattle.photo_version.specs.Showing.{epoch_text};

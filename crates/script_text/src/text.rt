@@ -1,7 +1,6 @@
 // The text of a script.
 ghost use Rattle.std.specs.Prelude.{◌≡◌, ◌↔◌, ◌++◌, map, string_bytes, Ok, None, true, IsTrue, IfOk, IfSome};
 ghost use Rattle.std.specs.List.{AllByRecursion};
-ghost use Rattle.fleet_model.specs.Contents.{NamesDevices, AreInRange, IsScript};
 ghost use Rattle.script_reader.specs.Reading.{script_of};
 ghost use Rattle.script_text.specs.Texts.{ended, line_of_command, line_of_device, lines_of_devices, text_of_lines, text_of_script};
 ghost use Rattle.script_text.specs.Printable.{HasValues, IsPrintable};

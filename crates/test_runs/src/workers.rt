@@ -1,6 +1,6 @@
 //! Tests that compare runs by workers with the run command by command: reports, totals and devices are the same, and so is the
 //! log except for its order.
-ghost use Rattle.std.specs.Prelude.{◌≡◌, ◌<◌, IfOk, IfSome};
+ghost use Rattle.std.specs.Prelude.{◌<◌, IfSome};
 ghost use Rattle.std.specs.Arc.{arc_value};
 ghost use Rattle.fleet_steps.specs.Outcomes.{IsOutcome};
 

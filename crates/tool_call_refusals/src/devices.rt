@@ -1,5 +1,5 @@
 //! Calls of `photo_device`, and `fleet_steps::run_command`.
-ghost use Rattle.std.specs.Prelude.{◌≡◌, ◌<◌, ◌==◌, ◌&&◌, ℕ, [], ◌∷◌, IfSome};
+ghost use Rattle.std.specs.Prelude.{◌≡◌, ◌<◌, ◌==◌, ◌&&◌, ℕ, [], ◌∷◌};
 ghost use Rattle.photo_version.specs.Author.{author, device_of_author};
 ghost use Rattle.photo_version.specs.Version as versions;
 ghost use Rattle.photo_version.specs.Vector.{denotes};

@@ -1,5 +1,5 @@
 //! Calls of `photo_batcher`, and the writing of a plan.
-ghost use Rattle.std.specs.Prelude.{◌≡◌, ◌≤◌, ◌<◌, length};
+ghost use Rattle.std.specs.Prelude.{◌<◌};
 
 use crate::scripts::unless_changed;
 use crate::streams;

@@ -1,8 +1,8 @@
 //! Calls that pull, in the middle of a script.
-ghost use Rattle.std.specs.Prelude.{◌≡◌, ◌<◌, ◌≤◌, ◌&&◌, nat_lt, true, not, None, is_some, length, IfSome};
+ghost use Rattle.std.specs.Prelude.{◌≡◌, ◌<◌, ◌&&◌, nat_lt, true, not, None, is_some, length, IfSome};
 ghost use Rattle.std.specs.List.{list_all};
 ghost use Rattle.photo_version.specs.Author.{epoch_of_author};
-ghost use Rattle.fleet_steps.specs.Between.{AreReady, HaveRoom, MayPull};
+ghost use Rattle.fleet_steps.specs.Between.{AreReady, MayPull};
 
 use crate::devices::same_devices;
 use fleet_steps::{Outcome, run_between, run_on, run_plain, run_pull};

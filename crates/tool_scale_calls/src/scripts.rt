@@ -1,5 +1,5 @@
 //! The calls on a script, and on what its run gives.
-ghost use Rattle.std.specs.Prelude.{◌≡◌, ◌<◌, ◌≤◌, length};
+ghost use Rattle.std.specs.Prelude.{◌<◌};
 ghost use Rattle.fleet_steps.specs.Outcomes.{IsOutcome};
 
 use crate::sessions;

@@ -1,5 +1,5 @@
 //! Calls on an arena.
-ghost use Rattle.std.specs.Prelude.{◌≡◌, ◌≤◌, length};
+ghost use Rattle.std.specs.Prelude.{◌≤◌, length};
 
 use fragment_arena::{FragmentArena, RawWords, Row};
 use std::alloc::Global;

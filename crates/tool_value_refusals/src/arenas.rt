@@ -1,5 +1,4 @@
 //! Calls of `fragment_arena`.
-ghost use Rattle.std.specs.Prelude.{◌≡◌, ◌∷◌, [], IfSome, length};
 
 use crate::verdict::{Verdict, judged, mark};
 use fragment_arena::{FragmentArena, RawWords};

@@ -1,5 +1,5 @@
 // Tests of reports on a device's knowledge.
-ghost use Rattle.std.specs.Prelude.{◌≡◌, ◌<◌, true, length};
+ghost use Rattle.std.specs.Prelude.{◌≡◌, ◌<◌, true};
 ghost use Rattle.std.specs.List.{AllByRecursion};
 ghost use Rattle.photo_script.specs.Reports.{IsFragmentOfScript};
 
