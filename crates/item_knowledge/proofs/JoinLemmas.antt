@@ -8,9 +8,9 @@ use Rattle.photo_version.specs.Author.{author_word}
 use Rattle.photo_version.specs.Version.{Version}
 use Rattle.item_knowledge.specs.Tables.{in_order}
 use Rattle.item_knowledge.specs.Entries.{Entry, denotes, is_entry, is_vector, bound, leq, joined}
-use Rattle.item_knowledge.specs.declared.join.EntryCursor.{EntryCursor}
+use Rattle.item_knowledge.specs.declared.pair_cursor.PairCursor.{PairCursor}
 use Rattle.item_knowledge.specs.Excess.{exceeding, IsLent}
-use Rattle.item_knowledge.specs.EntryCursor.{left_of}
+use Rattle.item_knowledge.specs.PairCursor.{entries_left}
 use Rattle.item_knowledge.specs.Rows.{pairs, flat}
 use Rattle.item_knowledge.proofs.TableLemmas.{put_length, merge_at, merge_order, merge_all, merge_left, merge_both}
 use Rattle.item_knowledge.proofs.EntryLemmas.{vector_parts, bound_below, denotes-bound}
@@ -74,7 +74,7 @@ row_put (x ∷ es) (suc i) a n h l e m =
 
 -- Two rows that are gone along together
 
-pub at_first : (at : EntryCursor) (xs ys : List ℕ) → at.left ≡ 0 → at.right ≡ 0 → left_of at xs ys ≡ joined (pairs xs) (pairs ys)
+pub at_first : (at : PairCursor) (xs ys : List ℕ) → at.left ≡ 0 → at.right ≡ 0 → entries_left at xs ys ≡ joined (pairs xs) (pairs ys)
 at_first at xs ys l r = λ i. joined (drop (l i) (pairs xs)) (drop (r i) (pairs ys))
 
 -- all of it is written

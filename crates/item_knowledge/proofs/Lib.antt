@@ -7,6 +7,7 @@ pub mod JoinLemmas
 pub mod RowLemmas
 pub mod GatherLemmas
 pub mod ChainLemmas
+pub mod CursorLemmas
 pub mod VectorIndexLemmas
 pub mod BoundFilterLemmas
 pub mod UnionLemmas

@@ -9,8 +9,8 @@ use Rattle.item_knowledge.specs.Entries.{Entry, same_entries}
 use Rattle.item_knowledge.specs.Excess.{exceeding, is_covered, union_vector, IsExcess, AllDiffer}
 use Rattle.item_knowledge.specs.Fragments.{Fragment, nothing, entries_at}
 use Rattle.item_knowledge.specs.Gathering.{star_first}
-use Rattle.item_knowledge.specs.declared.picture_cursor.PictureCursor.{PictureCursor}
-use Rattle.item_knowledge.specs.PictureCursor.{left_of}
+use Rattle.item_knowledge.specs.declared.pair_cursor.PairCursor.{PairCursor}
+use Rattle.item_knowledge.specs.PairCursor.{left_of}
 use Rattle.item_knowledge.specs.Rows.{pairs, flat, IsRow, fragments_of}
 use Rattle.item_knowledge.specs.Tables.{in_order}
 use Rattle.item_knowledge.proofs.DistinctUnionLemmas.{rows_snoc, numbered_snoc, numbered_length}
@@ -69,12 +69,12 @@ spread_more left gs rows new index more joined after p row v h written row_is pu
 
 -- On the way
 
-module _ (left right : List (List ℕ)) (xs ys : List (ℕ × ℕ)) (star : List Entry) (out : List (List ℕ)) (index joined : List (ℕ × ℕ)) (at : PictureCursor) (from to : ℕ) (h : IsWrittenUpTo left right xs ys star out index joined at from to) where
+module _ (left right : List (List ℕ)) (xs ys : List (ℕ × ℕ)) (star : List Entry) (out : List (List ℕ)) (index joined : List (ℕ × ℕ)) (at : PairCursor) (from to : ℕ) (h : IsWrittenUpTo left right xs ys star out index joined at from to) where
   abbrev f : ℕ × ℕ → List Entry
   f = union_vector star (fragments_of left) (fragments_of right)
 
   -- one more
-  on_more : (then : PictureCursor) (r : ℕ × (ℕ × ℕ)) (new : List (List ℕ)) (more after : List (ℕ × ℕ)) (start end : ℕ) → left_of at xs ys ≡ r ∷ left_of then xs ys → same_entries [] (f r.1) ≡ false
+  on_more : (then : PairCursor) (r : ℕ × (ℕ × ℕ)) (new : List (List ℕ)) (more after : List (ℕ × ℕ)) (start end : ℕ) → left_of at xs ys ≡ r ∷ left_of then xs ys → same_entries [] (f r.1) ≡ false
       → IsSpread left (h.gs ++ of_one r.0 (f r.1) ∷ []) (new ++ run left (2 * start) (2 * end)) more after → start ≤ end → end ≤ length (fragments_of left) → IsWrittenUpTo left right xs ys star new more after then start end
   on_more then r new more after start end step other spread order there = record {
     gs = h.gs ++ of_one r.0 (f r.1) ∷ [];
@@ -84,7 +84,7 @@ module _ (left right : List (List ℕ)) (xs ys : List (ℕ × ℕ)) (star : List
     there = there;
   }
 
-  pub on_joined : (then : PictureCursor) (r : ℕ × (ℕ × ℕ)) (new : List (List ℕ)) (more after : List (ℕ × ℕ)) (row : List ℕ) → left_of at xs ys ≡ r ∷ left_of then xs ys
+  pub on_joined : (then : PairCursor) (r : ℕ × (ℕ × ℕ)) (new : List (List ℕ)) (more after : List (ℕ × ℕ)) (row : List ℕ) → left_of at xs ys ≡ r ∷ left_of then xs ys
       → IsRow row → pairs row ≡ f r.1 → same_entries [] (f r.1) ≡ false
       → new ≡ ((out ++ run left (2 * from) (2 * to)) ++ (r.0 ∷ []) ∷ []) ++ row ∷ [] → more ≡ index ++ (r.0, length index + 1) ∷ [] → after ≡ joined ++ (r.0, length index + 1) ∷ []
       → IsWrittenUpTo left right xs ys star new more after then to to
@@ -98,7 +98,7 @@ module _ (left right : List (List ℕ)) (xs ys : List (ℕ × ℕ)) (star : List
       (snoc_each (λ _ y. y.1 < suc (suc (length h.gs))) joined x (0, 0) (λ m l. omega (arith, h.spread.there m l)) (omega (arith, long))))
       (omega arith) h.there)
 
-  pub on_stays : (then : PictureCursor) (r : ℕ × (ℕ × ℕ)) (new : List (List ℕ)) (more : List (ℕ × ℕ)) (start : ℕ) (words : List ℕ) → IsExcess words left → AllDiffer (fragments_of left) → left_of at xs ys ≡ r ∷ left_of then xs ys → Stays star left right r.0 r.1 → r.1.0 < length (fragments_of left)
+  pub on_stays : (then : PairCursor) (r : ℕ × (ℕ × ℕ)) (new : List (List ℕ)) (more : List (ℕ × ℕ)) (start : ℕ) (words : List ℕ) → IsExcess words left → AllDiffer (fragments_of left) → left_of at xs ys ≡ r ∷ left_of then xs ys → Stays star left right r.0 r.1 → r.1.0 < length (fragments_of left)
       → start ≤ r.1.0 → new ++ run left (2 * start) (2 * r.1.0) ≡ out ++ run left (2 * from) (2 * to) → more ≡ index ++ (r.0, length index + 1) ∷ []
       → IsWrittenUpTo left right xs ys star new more joined then start (r.1.0 + 1)
   on_stays then r new more start words excess differ step s there_a begins written pushed =

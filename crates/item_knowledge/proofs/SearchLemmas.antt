@@ -51,7 +51,7 @@ from_on xs key place k h least le l = grind (arith, rise xs h place k (0, 0))
 
 -- A table, from a place on
 
-order_from : (xs : List (ℕ × ℕ)) (i : ℕ) → in_order xs ≡ true → in_order (drop i xs) ≡ true
+pub order_from : (xs : List (ℕ × ℕ)) (i : ℕ) → in_order xs ≡ true → in_order (drop i xs) ≡ true
 order_from xs zero h = h
 order_from [] (suc i) h = refl
 order_from (x ∷ xs) (suc i) h = order_from xs i (and_parts (keys_pass (λ k. ltb x.0 k) xs) (in_order xs) h).1

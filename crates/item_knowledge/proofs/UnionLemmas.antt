@@ -1,8 +1,8 @@
 -- What is gathered from the merged tables of two operands, with the star of both, is their union.
-use Rattle.std.proofs.Common.{◌≡◌, ℕ, zero, suc, ◌<◌, true, ltb, ◌||◌, List, [], ◌∷◌, length, get_or, refl, sym, subst, ap, ◌∙◌, inl, inr, arith}
+use Rattle.std.proofs.Common.{◌≡◌, ℕ, zero, suc, ◌<◌, true, ltb, ◌||◌, List, [], ◌∷◌, length, refl, sym, subst, ap, ◌∙◌, inl, inr, arith}
 use Rattle.std.specs.List.{list_all}
 use Rattle.std.proofs.lemmas.List.{get_or_past}
-use Rattle.std.proofs.lemmas.Bool.{and_parts, and_from, ltb-true, cases_lt, false≢true}
+use Rattle.std.proofs.lemmas.Bool.{and_parts, and_from, cases_lt, false≢true}
 use Rattle.photo_version.specs.Version.{Version}
 use Rattle.item_knowledge.specs.Tables.{in_order, at}
 use Rattle.item_knowledge.specs.Entries.{Entry, denotes, is_entry, is_vector, bound, leq, joined}
@@ -66,10 +66,6 @@ knows_vector (s ∷ gs) p v h = knows_known s gs p v (normal_parts s gs h)
 
 pub entries_order : (fs : List Fragment) (xs : List (ℕ × ℕ)) (k : ℕ) → IsOperand fs xs → k < length fs → in_order (entries_at fs k) ≡ true
 entries_order fs xs k h l = (and_parts (in_order (entries_at fs k)) (list_all (λ (e : Entry). is_entry e) (entries_at fs k)) (above fs xs k h l).vector).0
-
--- the numbers of an index are those of fragments
-pub operand_at : (fs : List Fragment) (xs : List (ℕ × ℕ)) (i : ℕ) → IsOperand fs xs → i < length xs → (get_or xs i (0, 0)).1 < length fs
-operand_at fs xs i h l = ltb-true (get_or xs i (0, 0)).1 (length fs) (all_at (λ (r : ℕ × ℕ). ltb r.1 (length fs)) xs i (0, 0) h.range l)
 
 -- What two operands have beyond the star of their union
 

@@ -4,7 +4,6 @@ pub mod Fragments
 pub mod Rows
 pub mod Gathering
 pub mod Excess
-pub mod EntryCursor
 pub mod Written
 pub mod Raising
 pub mod VectorIndex
@@ -16,7 +15,7 @@ pub mod Coding
 pub mod TableRows
 pub mod Laws
 pub mod Examples
-pub mod PictureCursor
+pub mod PairCursor
 pub mod DistinctUnion
 pub mod UnionProgress
 pub mod Operand

@@ -13,6 +13,11 @@ abbrev pub IsWhole : SortedPairs → Type 0
 IsWhole (Index index) = Unit {0}
 IsWhole (Row row) = IsRow row.now
 
+-- the type of a list has no key from this one on
+abbrev pub key_limit : SortedPairs → ℕ
+key_limit (Index index) = 4294967296
+key_limit (Row row) = 18446744073709551616
+
 -- all keys before a place are smaller
 abbrev pub AreBelow : ℕ → List (ℕ × ℕ) → ℕ → Type 0
 AreBelow key xs place = (k : ℕ) → k < place → (get_or xs k (0, 0)).0 < key

@@ -5,12 +5,12 @@ use Rattle.item_knowledge.specs.DistinctUnion.{singles, spread_of, IsSpread}
 use Rattle.item_knowledge.specs.Entries.{Entry}
 use Rattle.item_knowledge.specs.Excess.{union_vector}
 use Rattle.item_knowledge.specs.Fragments.{Fragment}
-use Rattle.item_knowledge.specs.declared.picture_cursor.PictureCursor.{PictureCursor}
-use Rattle.item_knowledge.specs.PictureCursor.{left_of}
+use Rattle.item_knowledge.specs.declared.pair_cursor.PairCursor.{PairCursor}
+use Rattle.item_knowledge.specs.PairCursor.{left_of}
 use Rattle.item_knowledge.specs.Rows.{fragments_of}
 
 -- a union that is written in part: the written fragments, then a run of the left's that is still to be written, then the rest
-pub record IsWrittenUpTo (left right : List (List ℕ)) (xs ys : List (ℕ × ℕ)) (star : List Entry) (out : List (List ℕ)) (index joined : List (ℕ × ℕ)) (at : PictureCursor) (from to : ℕ) : Type 0 where
+pub record IsWrittenUpTo (left right : List (List ℕ)) (xs ys : List (ℕ × ℕ)) (star : List Entry) (out : List (List ℕ)) (index joined : List (ℕ × ℕ)) (at : PairCursor) (from to : ℕ) : Type 0 where
   pub gs : List Fragment
   pub rest : gs ++ singles [] (union_vector star (fragments_of left) (fragments_of right)) (left_of at xs ys) ≡ spread_of star (fragments_of left) (fragments_of right) xs ys
   pub spread : IsSpread left gs (out ++ run left (2 * from) (2 * to)) index joined

@@ -13,10 +13,10 @@ ghost use Rattle.item_knowledge.specs.Operand.{fragments};
 
 use crate::bound_filter::BoundFilter;
 use crate::grouping::is_nothing;
-use crate::index::{IndexEntry, to_u32};
+use crate::index::{IndexEntry, pictures_together, to_u32};
 use crate::join::join;
 use crate::operand::Operand;
-use crate::picture_cursor::{PictureCursor, pictures_together};
+use crate::pair_cursor::PairCursor;
 use crate::rows::Rows;
 use crate::search::{bound_of, entry_at, entry_count};
 use crate::union::{begin, entries, pair};
@@ -182,8 +182,8 @@ fn spread(
     let mut room = Vec::new(alloc);
     let mut from = 1;
     let mut to = 1;
-    let mut cursor = PictureCursor::new();
-    while let Some((picture, numbers)) = cursor.next(left, right) {
+    let mut cursor = PairCursor::new();
+    while let Some((picture, numbers)) = cursor.next_picture(left, right) {
         if stays(left, right, star, &risen, picture, numbers) {
             from = run_to(left.rows, from, to, numbers.0, out)?;
             to = numbers.0 + 1;

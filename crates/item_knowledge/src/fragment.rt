@@ -1,5 +1,5 @@
 // A lent fragment, and a cursor along its entries.
-use crate::join::EntryCursor;
+use crate::pair_cursor::PairCursor;
 use photo_version::{Author, Vector};
 use std::alloc::{AllocError, Global};
 use std::marker::Model;
@@ -86,7 +86,7 @@ impl<'a> Fragment<'a> {
         FragmentEntries {
             row: self.row,
             star: self.star,
-            cursor: EntryCursor::new(),
+            cursor: PairCursor::new(),
         }
     }
 
@@ -127,7 +127,7 @@ impl<'a> Fragment<'a> {
 pub struct FragmentEntries<'a> {
     row: &'a [u64],
     star: &'a [u64],
-    cursor: EntryCursor,
+    cursor: PairCursor,
 }
 
 impl<'a> Model for FragmentEntries<'a> {
@@ -135,15 +135,15 @@ impl<'a> Model for FragmentEntries<'a> {
     ghost use Rattle.std.specs.Coded.{coded×, coded_ℕ, coded_list};
     ghost use Rattle.item_knowledge.specs.Entries.{Entry, is_vector};
     ghost use Rattle.item_knowledge.specs.Excess.{IsLent};
-    ghost use Rattle.item_knowledge.specs.EntryCursor.{left_of};
+    ghost use Rattle.item_knowledge.specs.PairCursor.{entries_left};
 
     ghost Value = { List Entry };
 
     ghost coded = { coded_list (coded× coded_ℕ coded_ℕ) };
 
-    ghost view = { λ e. left_of e.cursor e.row.now e.star.now };
+    ghost view = { λ e. entries_left e.cursor e.row.now e.star.now };
 
-    ghost invariant = { λ e. IsLent e.row.now e.star.now × (is_vector (left_of e.cursor e.row.now e.star.now) ≡ true) };
+    ghost invariant = { λ e. IsLent e.row.now e.star.now × (is_vector (entries_left e.cursor e.row.now e.star.now) ≡ true) };
 }
 
 impl<'a> FragmentEntries<'a> {
@@ -157,7 +157,7 @@ impl<'a> FragmentEntries<'a> {
         ensures above_zero { IfSome result (λ e. 0 < e.1) }
         ensures none { result ≡ None → self.old ≡ [] }
     {
-        let (word, number) = self.cursor.next(self.row, self.star)?;
+        let (word, number) = self.cursor.next_entry(self.row, self.star)?;
         Some((Author::of_word(word), number as u32))
     }
 }

@@ -18,3 +18,11 @@ pub(crate) fn to_u32(count: usize) -> Result<u32, AllocError>
     }
     Ok(count as u32)
 }
+
+/// An estimate of how many pictures two indexes name together, for reserving memory. It expects that the shorter index names few
+/// pictures of its own.
+pub(crate) fn pictures_together(xs: &[IndexEntry], ys: &[IndexEntry]) -> usize {
+    let more = xs.len().max(ys.len());
+    let fewer = xs.len().min(ys.len());
+    more.saturating_add(fewer.min(more / 8 + 16))
+}

@@ -21,7 +21,7 @@ mod knowledge;
 mod knowledge_rows;
 pub mod laws;
 mod operand;
-mod picture_cursor;
+mod pair_cursor;
 mod rows;
 mod search;
 mod told;

@@ -3,14 +3,14 @@ ghost use Rattle.std.specs.Prelude.{◌≡◌, ◌<◌, true, length, get_or};
 ghost use Rattle.item_knowledge.specs.Tables.{in_order, at};
 ghost use Rattle.item_knowledge.specs.Entries.{bound};
 ghost use Rattle.item_knowledge.specs.Rows.{pairs, IsRow, IsPlaceOf};
-ghost use Rattle.item_knowledge.specs.Searching.{pairs_in, IsWhole, IsBetween};
+ghost use Rattle.item_knowledge.specs.Searching.{pairs_in, key_limit, IsWhole, IsBetween};
 
 use crate::index::IndexEntry;
 
-// A lent list of pairs, sorted by key: the pictures of an index with the numbers of their fragments, or the authors of a row with
-// their bounds.
+/// A lent list of pairs, sorted by key: the pictures of an index with the numbers of their fragments, or the authors of a row with
+/// their bounds.
 #[derive(Clone, Copy)]
-enum SortedPairs<'a> {
+pub(crate) enum SortedPairs<'a> {
     Index(&'a [IndexEntry]),
     Row(&'a [u64]),
 }
@@ -36,9 +36,9 @@ pub(crate) fn entry_at(row: &[u64], i: usize) -> (u64, u64)
     (row[2 * i], row[2 * i + 1])
 }
 
-// The number of pairs.
+/// The number of pairs.
 #[inline(always)]
-fn pair_count(list: SortedPairs<'_>) -> usize
+pub(crate) fn pair_count(list: SortedPairs<'_>) -> usize
     requires { IsWhole list }
     ensures { result ≡ length (pairs_in list.entry) }
 {
@@ -48,17 +48,18 @@ fn pair_count(list: SortedPairs<'_>) -> usize
     }
 }
 
-// The pair at place `i`.
+/// The pair at place `i`.
 #[inline(always)]
-fn pair_at(list: SortedPairs<'_>, i: usize) -> (u64, u64)
+pub(crate) fn pair_at(list: SortedPairs<'_>, i: usize) -> (u64, u64)
     requires whole { IsWhole list }
     requires place { i < length (pairs_in list) }
-    ensures { result ≡ get_or (pairs_in list.entry) i (0, 0) }
+    ensures pair { result ≡ get_or (pairs_in list.entry) i (0, 0) }
+    ensures limit { result.0 < key_limit list.entry }
 {
     match list {
         SortedPairs::Index(index) => {
-            let pair = index[i];
-            (u64::from(pair.0), u64::from(pair.1))
+            let (picture, number) = index[i];
+            (u64::from(picture), u64::from(number))
         }
         SortedPairs::Row(row) => entry_at(row, i),
     }

@@ -12,10 +12,10 @@ ghost use Rattle.item_knowledge.specs.Tables.{in_order};
 use crate::distinct_union::distinct_union;
 use crate::group::Group;
 use crate::grouping::{add, is_nothing};
-use crate::index::{IndexEntry, to_u32};
+use crate::index::{IndexEntry, pictures_together, to_u32};
 use crate::join::join;
 use crate::operand::Operand;
-use crate::picture_cursor::{PictureCursor, pictures_together};
+use crate::pair_cursor::PairCursor;
 use crate::rows::Rows;
 use crate::vector_index::VectorIndex;
 use std::alloc::{AllocError, Global};
@@ -112,8 +112,8 @@ fn groups(
     let mut groups = Vec::new(alloc);
     let mut index = Vec::with_capacity(alloc, pictures_together(left.index, right.index))?;
     let mut room = Vec::new(alloc);
-    let mut cursor = PictureCursor::new();
-    while let Some((picture, numbers)) = cursor.next(left, right) {
+    let mut cursor = PairCursor::new();
+    while let Some((picture, numbers)) = cursor.next_picture(left, right) {
         let row = pair(left, right, numbers, star, &mut room)?;
         if is_nothing(row) {
             continue;

@@ -20,7 +20,7 @@ overflow_add-to c = omega (arith, rows_read c.args.left.rows.now c.args.left.who
 pub loop-picture-preserved-then-stays : goal.loop-picture-preserved-then-stays
 loop-picture-preserved-then-stays c =
     let r : ℕ × (ℕ × ℕ) = (c.in-Some.picture, c.in-Some.numbers) in
-    on_stays c.args.left.rows.now c.args.right.rows.now c.args.left.index.now c.args.right.index.now (pairs c.args.star.now) c.loop-picture.out c.loop-picture.lists.index.items c.loop-picture.lists.joined.items c.loop-picture.cursor c.loop-picture.from c.loop-picture.to c.loop-picture.invariant c.next.new.self r c.run_to.new.out c.push.new.self.items c.in_ok-from.from c.args.left.star.now c.args.left.excess c.requires.differ c.in-Some.ensures.next (c.stays.ensures c.if-stays.true) c.in-Some.ensures.left c.in_ok-from.ensures.order c.in_ok-from.ensures.run
+    on_stays c.args.left.rows.now c.args.right.rows.now c.args.left.index.now c.args.right.index.now (pairs c.args.star.now) c.loop-picture.out c.loop-picture.lists.index.items c.loop-picture.lists.joined.items c.loop-picture.cursor c.loop-picture.from c.loop-picture.to c.loop-picture.invariant c.next_picture.new.self r c.run_to.new.out c.push.new.self.items c.in_ok-from.from c.args.left.star.now c.args.left.excess c.requires.differ c.in-Some.ensures.next (c.stays.ensures c.if-stays.true) c.in-Some.ensures.left c.in_ok-from.ensures.order c.in_ok-from.ensures.run
     (c.in_ok-push.ensures.items ∙ ap (λ n. c.loop-picture.lists.index.items ++ (r.0, n) ∷ []) (c.in_ok-number.ensures.value ∙ search rules))
 
 pub loop-picture-preserved : goal.loop-picture-preserved
@@ -29,5 +29,5 @@ loop-picture-preserved c =
     let f = union_vector (pairs c.args.star.now) (fragments c.args.left) (fragments c.args.right) in
     let some : same_entries [] (f r.1) ≡ false = ap (λ v. same_entries [] v) (sym c.in_ok-row.ensures.entries) ∙ (sym c.is_nothing.ensures ∙ search rules) in
     let number : c.in_ok-number-2.number ≡ length c.loop-picture.lists.index.items + 1 = c.in_ok-number-2.ensures.value ∙ search rules in
-    on_joined c.args.left.rows.now c.args.right.rows.now c.args.left.index.now c.args.right.index.now (pairs c.args.star.now) c.loop-picture.out c.loop-picture.lists.index.items c.loop-picture.lists.joined.items c.loop-picture.cursor c.loop-picture.from c.loop-picture.to c.loop-picture.invariant c.next.new.self r c.place_fragment.new.self c.push-in-Some.new.self.items c.push-in-Some-2.new.self.items c.in_ok-row.row.now c.in-Some.ensures.next c.in_ok-row.ensures.row c.in_ok-row.ensures.entries some (search rules)
+    on_joined c.args.left.rows.now c.args.right.rows.now c.args.left.index.now c.args.right.index.now (pairs c.args.star.now) c.loop-picture.out c.loop-picture.lists.index.items c.loop-picture.lists.joined.items c.loop-picture.cursor c.loop-picture.from c.loop-picture.to c.loop-picture.invariant c.next_picture.new.self r c.place_fragment.new.self c.push-in-Some.new.self.items c.push-in-Some-2.new.self.items c.in_ok-row.row.now c.in-Some.ensures.next c.in_ok-row.ensures.row c.in_ok-row.ensures.entries some (search rules)
     (c.in_ok-push-2.ensures.items ∙ ap (λ n. c.loop-picture.lists.index.items ++ (r.0, n) ∷ []) number) (c.in_ok-push-3.ensures.items ∙ ap (λ n. c.loop-picture.lists.joined.items ++ (r.0, n) ∷ []) number)

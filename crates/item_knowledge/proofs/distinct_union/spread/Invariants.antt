@@ -1,4 +1,4 @@
-use Rattle.item_knowledge.specs.PictureCursor.{to_come}
+use Rattle.item_knowledge.specs.PairCursor.{to_come}
 use Rattle.item_knowledge.specs.Rows.{pairs}
 use Rattle.item_knowledge.specs.UnionProgress.{IsWrittenUpTo}
 use Rattle.item_knowledge.proofs.distinct_union.spread.Given as goal

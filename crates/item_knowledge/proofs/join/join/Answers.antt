@@ -1,7 +1,7 @@
 use Rattle.std.proofs.Common.{refl, sym, subst, ap, ◌∙◌}
 use Rattle.item_knowledge.specs.Entries.{joined}
 use Rattle.item_knowledge.specs.Excess.{exceeding}
-use Rattle.item_knowledge.specs.EntryCursor as spec
+use Rattle.item_knowledge.specs.PairCursor as spec
 use Rattle.item_knowledge.specs.Rows.{pairs, IsRow}
 use Rattle.item_knowledge.proofs.JoinLemmas.{exceeding_done}
 use Rattle.item_knowledge.proofs.RowLemmas.{flat_row, pairs_flat}
@@ -9,10 +9,10 @@ use Rattle.item_knowledge.proofs.join.join.Goals as goal
 
 pub returns-clause-row : goal.returns-clause-row
 returns-clause-row c =
-    let is = exceeding_done (pairs c.args.star.now) (spec.left_of c.loop-author.cursor c.args.xs.now c.args.ys.now) (exceeding (pairs c.args.star.now) (joined (pairs c.args.xs.now) (pairs c.args.ys.now))) c.loop-author.out.items (c.in_default.ensures.none refl) c.loop-author.invariant.done in
+    let is = exceeding_done (pairs c.args.star.now) (spec.entries_left c.loop-author.cursor c.args.xs.now c.args.ys.now) (exceeding (pairs c.args.star.now) (joined (pairs c.args.xs.now) (pairs c.args.ys.now))) c.loop-author.out.items (c.in_default.ensures.none refl) c.loop-author.invariant.done in
     subst IsRow (sym is) (flat_row (exceeding (pairs c.args.star.now) (joined (pairs c.args.xs.now) (pairs c.args.ys.now))))
 
 pub returns-clause-entries : goal.returns-clause-entries
 returns-clause-entries c =
-    let is = exceeding_done (pairs c.args.star.now) (spec.left_of c.loop-author.cursor c.args.xs.now c.args.ys.now) (exceeding (pairs c.args.star.now) (joined (pairs c.args.xs.now) (pairs c.args.ys.now))) c.loop-author.out.items (c.in_default.ensures.none refl) c.loop-author.invariant.done in
+    let is = exceeding_done (pairs c.args.star.now) (spec.entries_left c.loop-author.cursor c.args.xs.now c.args.ys.now) (exceeding (pairs c.args.star.now) (joined (pairs c.args.xs.now) (pairs c.args.ys.now))) c.loop-author.out.items (c.in_default.ensures.none refl) c.loop-author.invariant.done in
     ap pairs is ∙ pairs_flat (exceeding (pairs c.args.star.now) (joined (pairs c.args.xs.now) (pairs c.args.ys.now)))

@@ -7,7 +7,7 @@ pub loop-low-preserved-then-found-key : goal.loop-low-preserved-then-found-key
 loop-low-preserved-then-found-key c =
     let xs = pairs_in c.args.list in
     let middle = c.loop-low.low + (c.loop-low.high - c.loop-low.low) / 2 in
-    let key = ap (λ (e : ℕ × ℕ). e.0) c.pair_at-found.ensures in
+    let key = ap (λ (e : ℕ × ℕ). e.0) c.pair_at-found.ensures.pair in
     let inside : middle < length xs = omega (arith, c.loop-low.invariant.inside) in
     record {
       ends = omega arith;
@@ -19,7 +19,7 @@ pub loop-low-preserved : goal.loop-low-preserved
 loop-low-preserved c =
     let xs = pairs_in c.args.list in
     let middle = c.loop-low.low + (c.loop-low.high - c.loop-low.low) / 2 in
-    let key = ap (λ (e : ℕ × ℕ). e.0) c.pair_at-found.ensures in
+    let key = ap (λ (e : ℕ × ℕ). e.0) c.pair_at-found.ensures.pair in
     record {
       ends = omega arith;
       inside = omega (arith, c.loop-low.invariant.inside);

@@ -8,10 +8,10 @@ returns-then-place-pair_count c = sym (absent_at (pairs_in c.args.list) c.args.k
 
 pub returns-then-found-key : goal.returns-then-found-key
 returns-then-found-key c =
-    let key = ap (λ (e : ℕ × ℕ). e.0) c.pair_at-found.ensures in
-    ap (λ (e : ℕ × ℕ). e.1) c.pair_at-found.ensures ∙ found_there (pairs_in c.args.list) c.args.key c.place_of-place.result (0, 0) c.requires.order (omega arith) (omega arith)
+    let key = ap (λ (e : ℕ × ℕ). e.0) c.pair_at-found.ensures.pair in
+    ap (λ (e : ℕ × ℕ). e.1) c.pair_at-found.ensures.pair ∙ found_there (pairs_in c.args.list) c.args.key c.place_of-place.result (0, 0) c.requires.order (omega arith) (omega arith)
 
 pub returns-else-found-key : goal.returns-else-found-key
 returns-else-found-key c =
-    let key = ap (λ (e : ℕ × ℕ). e.0) c.pair_at-found.ensures in
+    let key = ap (λ (e : ℕ × ℕ). e.0) c.pair_at-found.ensures.pair in
     sym (absent_at (pairs_in c.args.list) c.args.key c.place_of-place.result c.requires.order c.place_of-place.ensures (λ l e. absurd (omega arith)))

@@ -42,4 +42,4 @@ loop-picture-preserved c =
 
 pub returns-clause-gathered : goal.returns-clause-gathered
 returns-clause-gathered c =
-    left_is (ap (table_of [] (union_vector (pairs c.args.star.now) (fragments c.args.left) (fragments c.args.right))) (c.next.ensures.none (search rules))) c.loop-picture.invariant.gathered
+    left_is (ap (table_of [] (union_vector (pairs c.args.star.now) (fragments c.args.left) (fragments c.args.right))) (c.next_picture.ensures.none (search rules))) c.loop-picture.invariant.gathered

@@ -1,7 +1,7 @@
 use Rattle.std.proofs.Common.{[]}
 use Rattle.item_knowledge.specs.Excess.{union_vector}
 use Rattle.item_knowledge.specs.Gathering.{table_of, IsGathered}
-use Rattle.item_knowledge.specs.PictureCursor.{left_of, to_come}
+use Rattle.item_knowledge.specs.PairCursor.{left_of, to_come}
 use Rattle.item_knowledge.specs.VectorIndex.{AreGrouped, vectors_at}
 use Rattle.item_knowledge.specs.Rows.{pairs, grouped}
 use Rattle.item_knowledge.specs.Operand.{fragments}
