@@ -1,17 +1,18 @@
 -- Tests of held versions in order, from a place on, and what a test finds of a list.
-use Rattle.std.proofs.Common.{◌≡◌, ℕ, zero, suc, ◌-◌, ◌+◌, ltb, ◌<◌, ◌≤◌, Bool, true, false, ◌&&◌, ◌||◌, List, [], ◌∷◌, ◌++◌, append-nil, length, get_or, take, drop, refl, sym, ap, ◌∙◌, arith}
+use Rattle.std.proofs.Common.{◌≡◌, ℕ, zero, suc, ◌-◌, ◌+◌, ltb, ◌<◌, ◌≤◌, Bool, true, false, ◌||◌, List, [], ◌∷◌, ◌++◌, append-nil, length, get_or, drop, refl, sym, ap, ◌∙◌, arith}
 use Rattle.std.specs.Prelude.{filter}
-use Rattle.std.specs.List.{list_all, list_any}
+use Rattle.std.specs.List.{list_any}
 use Rattle.std.proofs.lemmas.Bool.Decides.{nat_tests}
-use Rattle.std.proofs.lemmas.List.{take_rest, take-append-drop, length-drop, get_or-drop}
+use Rattle.std.proofs.lemmas.List.{length-drop, get_or-drop}
 use Rattle.std.proofs.lemmas.List.Elements.{All-from_get_or}
-use Rattle.std.proofs.lemmas.List.Folds.{list_all-append, list_any_none}
+use Rattle.std.proofs.lemmas.List.Folds.{list_any_none}
 use Rattle.photo_device.specs.declared.held.Held.{Held}
-use Rattle.photo_device.specs.Held.{are_in_order, held_before}
+use Rattle.photo_device.specs.Held.{are_in_order}
 use Rattle.photo_device.proofs.Order.{rises, in_order-filter}
 use Rattle.photo_device.proofs.Putting.{any_counted}
 use Rattle.photo_device.specs.declared.change.Selection.{Selection}
-use Rattle.photo_pull.specs.OnHeld.{has_above, has_below, selection_above}
+use Rattle.photo_device.specs.Device.{Kept}
+use Rattle.photo_pull.specs.OnHeld.{has_above, has_below, is_gone, selection_above}
 
 -- what stands before a place is passed, where none of it passes a test
 pub none_before : (f : Held → Bool) (xs : List Held) (k : ℕ) → ((i : ℕ) (d : Held) → i < k → f (get_or xs i d) ≡ false) → filter f (drop k xs) ≡ filter f xs
@@ -43,19 +44,12 @@ nil : (hs : List Held) → length hs ≡ 0 → hs ≡ []
 nil [] none = refl
 nil (h ∷ hs) none = absurd (omega (arith, none))
 
-pub none_above : (some : Selection) (hs : List Held) → length some.stored.items ≡ 0 → length some.waiting.items ≡ 0 → filter (selection_above some) hs ≡ []
-none_above some [] s w = refl
-none_above some (h ∷ hs) s w =
-    let none : selection_above some h ≡ false = λ i. has_above (nil some.stored.items s i) h || has_above (nil some.waiting.items w i) h in
-    rw none (none_above some hs s w)
+pub none_gone : (news : Selection) (d : Kept) (hs : List Held) → length news.stored.items ≡ 0 → length news.waiting.items ≡ 0 → filter (is_gone news false d) hs ≡ []
+none_gone news d [] s w = refl
+none_gone news d (h ∷ hs) s w =
+    let none : selection_above news h ≡ false = λ i. has_above (nil news.stored.items s i) h || has_above (nil news.waiting.items w i) h in
+    rw none (none_gone news d hs s w)
 
--- two lists one after the other are in order where each is, and all of the first stand before all of the second
-pub order_append : (xs ys : List Held) → are_in_order (xs ++ ys) ≡ (list_all (λ x. list_all (held_before x) ys) xs && (are_in_order xs && are_in_order ys))
-order_append [] ys = refl
-order_append (x ∷ xs) ys = let first = list_all-append (held_before x) xs ys in let rest = order_append xs ys in grind arith
-
-pub rest_in_order : (xs : List Held) (k : ℕ) → are_in_order xs ≡ true → are_in_order (take (length xs - k) (drop k xs)) ≡ true
-rest_in_order xs k order = let parts = sym (order_append (take k xs) (drop k xs)) ∙ ap are_in_order (take-append-drop k xs) ∙ order in let same = ap are_in_order (take_rest xs k) in grind arith
-
+-- what passes a test of a list in order is in order
 pub filtered_in_order : (q : Held → Bool) (xs ys : List Held) → ys ++ [] ≡ filter q xs → are_in_order xs ≡ true → are_in_order ys ≡ true
 filtered_in_order q xs ys is order = ap are_in_order (sym (append-nil ys) ∙ is) ∙ in_order-filter q xs order

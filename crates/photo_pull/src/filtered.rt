@@ -1,14 +1,13 @@
 //! Held versions that pass a test, in their order. Copies share the held versions.
-ghost use Rattle.std.specs.Prelude.{◌≡◌, ◌≤◌, ◌++◌, ◌&&◌, ◌||◌, not, true, length, filter, IfOk, OnOk, OnErr};
+ghost use Rattle.std.specs.Prelude.{◌≡◌, ◌≤◌, ◌&&◌, ◌||◌, not, true, length, filter, IfOk, OnErr};
 ghost use Rattle.std.specs.List.{list_any};
 ghost use Rattle.item_knowledge.specs.Fragments.{knows};
 ghost use Rattle.photo_device.specs.Held.{are_in_order};
-ghost use Rattle.photo_pull.specs.OnHeld.{is_gone, is_selected, has_same, selection_above, selection_below, IsOrdered, IsQuiet, HasPassed};
+ghost use Rattle.photo_pull.specs.OnHeld.{is_gone, is_selected, has_same, selection_below, IsOrdered, IsQuiet, HasPassed};
 
 use crate::quiet_range::QuietRange;
 use crate::selection::{has_above, has_below, is_empty};
 use crate::set_cursor::SetCursor;
-use crate::superseding::without_news;
 use photo_device::{Device, HeldSet, Selection, SharedHeld};
 use photo_filter_rules::Filter;
 use std::alloc::{AllocError, Global};
@@ -34,9 +33,10 @@ fn has_given_up(device: &Device, beside: &mut Cursors<'_>, held: &SharedHeld) ->
     device.knowledge().knows(held.picture(), held.version())
 }
 
-// Whether news supersedes the version, or the device has given it up.
+// Whether news supersedes the version or, where `followed`, the device has given it up.
 fn is_dropped(
     news: &Selection,
+    followed: bool,
     device: &Device,
     beside: &mut Cursors<'_>,
     held: &SharedHeld,
@@ -45,70 +45,19 @@ fn is_dropped(
     requires quiet { IsQuiet news.now beside.old.quiet }
     requires kept { are_in_order beside.old.kept ≡ true }
     requires same { has_same beside.old.kept held.now ≡ has_same device.now.store held.now }
-    ensures is { result ≡ is_gone news.now true device.now held.now }
+    ensures is { result ≡ is_gone news.now followed device.now held.now }
     ensures quiet { IsQuiet news.now beside.new.quiet }
     ensures passed { HasPassed held.now beside.old.kept beside.new.kept }
 {
     if has_above(news, &mut beside.quiet, held) {
         return true;
     }
-    has_given_up(device, beside, held)
+    followed && has_given_up(device, beside, held)
 }
 
-// Adds copies of those versions of a list that news supersedes. Skips together the versions of pictures without news.
-#[tactic(auto, using(std::proofs::lemmas::Grind::common_steps, crate::proofs::Along::rest_in_order))]
-fn push_superseded(
-    found: &mut Vec<SharedHeld>,
-    news: &Selection,
-    quiet: &mut QuietRange,
-    list: &[SharedHeld],
-) -> Result<(), AllocError>
-    requires order { IsOrdered news.now }
-    requires list { are_in_order list.now ≡ true }
-    requires quiet { IsQuiet news.now quiet.old }
-    ensures items { OnOk result (found.new.items ≡ found.old.items ++ filter (selection_above news.now) list.now) }
-    ensures quiet { IsQuiet news.now quiet.new }
-    ensures err { OnErr result (list_any (selection_above news.now) list.now ≡ true) }
-{
-    let mut place = 0;
-    while place < list.len() {
-        place += without_news(&list[place..], *quiet);
-        let Some(held) = list.get(place) else {
-            return Ok(());
-        };
-        if has_above(news, quiet, held) {
-            found.push(held.try_clone()?)?;
-        }
-        place += 1;
-    }
-    Ok(())
-}
-
-// Copies of those versions of a set that news supersedes. Without news it doesn't visit the set.
-#[tactic(auto, using(std::proofs::lemmas::Grind::common_steps, crate::proofs::Along::none_above, crate::proofs::Along::filtered_in_order, crate::proofs::Along::order_append))]
-fn superseded_of(
-    alloc: Global,
-    news: &Selection,
-    set: &HeldSet,
-) -> Result<Vec<SharedHeld>, AllocError>
-    requires { IsOrdered news.now }
-    ensures items { IfOk result (λ found. found.items ≡ filter (selection_above news.now) set.now) }
-    ensures ordered { IfOk result (λ found. are_in_order found.items ≡ true) }
-    ensures err { OnErr result (list_any (selection_above news.now) set.now ≡ true) }
-{
-    let mut found = Vec::new(alloc);
-    if is_empty(news) {
-        return Ok(found);
-    }
-    let mut quiet = QuietRange::none();
-    for block in set.blocks() {
-        push_superseded(&mut found, news, &mut quiet, block)?;
-    }
-    Ok(found)
-}
-
-/// Copies of those versions of a set that news supersedes or, where `followed`, that the device has given up.
-#[tactic(auto, using(std::proofs::lemmas::Grind::common_steps, crate::proofs::Along::filtered_in_order, crate::proofs::Passing::beside_one))]
+/// Copies of those versions of a set that news supersedes or, where `followed`, that the device has given up. Without either it
+/// doesn't visit the set.
+#[tactic(auto, using(std::proofs::lemmas::Grind::common_steps, crate::proofs::Along::none_gone, crate::proofs::Along::filtered_in_order, crate::proofs::Passing::beside_one))]
 pub(crate) fn dropped_of(
     alloc: Global,
     news: &Selection,
@@ -121,16 +70,16 @@ pub(crate) fn dropped_of(
     ensures ordered { IfOk result (λ found. are_in_order found.items ≡ true) }
     ensures err { OnErr result (list_any (is_gone news.now followed device.now) set.now ≡ true) }
 {
-    if !followed {
-        return superseded_of(alloc, news, set);
-    }
     let mut found = Vec::new(alloc);
+    if !followed && is_empty(news) {
+        return Ok(found);
+    }
     let mut beside = Cursors {
         quiet: QuietRange::none(),
         kept: SetCursor::of(device.store()),
     };
     for held in set.iter() {
-        if !is_dropped(news, device, &mut beside, held) {
+        if !is_dropped(news, followed, device, &mut beside, held) {
             continue;
         }
         found.push(held.try_clone()?)?;

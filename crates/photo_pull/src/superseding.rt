@@ -1,10 +1,9 @@
 //! Searches in lists of held versions in the order of their pictures.
-ghost use Rattle.std.specs.Prelude.{◌≡◌, ◌≤◌, ◌<◌, Bool, true, false, length, filter, drop};
+ghost use Rattle.std.specs.Prelude.{◌≡◌, ◌≤◌, ◌<◌, true, false, drop};
 ghost use Rattle.photo_device.specs.declared.held.Held as spec;
 ghost use Rattle.photo_device.specs.Held.{are_in_order};
 ghost use Rattle.photo_pull.specs.OnHeld.{is_above, has_above, has_below};
 
-use crate::quiet_range::QuietRange;
 use photo_device::SharedHeld;
 use photo_record::PicNo;
 
@@ -34,22 +33,6 @@ pub(crate) fn picture_at(list: &[SharedHeld], place: usize) -> u32
         return u32::MAX;
     }
     list[place].picture().value()
-}
-
-/// How many versions at the start of a list are of pictures in the quiet range.
-pub(crate) fn without_news(list: &[SharedHeld], quiet: QuietRange) -> usize
-    requires { are_in_order list.now ≡ true }
-    ensures bound { result ≤ length list.now }
-    ensures passed { (f : spec.Held → Bool) → ((h : spec.Held) → quiet.from ≤ h.picture → h.picture < quiet.end → f h ≡ false)
-        → filter f (drop result list.now) ≡ filter f list.now }
-{
-    if list.is_empty() || !quiet.has(list[0].picture()) {
-        return 0;
-    }
-    if quiet.has(list[list.len() - 1].picture()) {
-        return list.len();
-    }
-    list.partition_point(|held| held.picture().value() < quiet.end)
 }
 
 /// Whether a version of the list, from a place on, supersedes the held version.

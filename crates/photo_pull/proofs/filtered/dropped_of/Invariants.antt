@@ -9,6 +9,6 @@ abbrev pub invariant-loop-held : goal.invariant-loop-held
 invariant-loop-held l = record {
   quiet : IsQuiet l.news l.beside.quiet;
   beside : AreBeside l.device.store l.beside.kept l.held-iterator;
-  any : list_any (is_gone l.news true l.device) l.held-iterator ≡ true → list_any (is_gone l.news true l.device) l.set ≡ true;
-  found : l.found.items ++ filter (is_gone l.news true l.device) l.held-iterator ≡ filter (is_gone l.news true l.device) l.set;
+  any : list_any (is_gone l.news l.followed l.device) l.held-iterator ≡ true → list_any (is_gone l.news l.followed l.device) l.set ≡ true;
+  found : l.found.items ++ filter (is_gone l.news l.followed l.device) l.held-iterator ≡ filter (is_gone l.news l.followed l.device) l.set;
 }
