@@ -18,7 +18,7 @@ use crate::join::join;
 use crate::operand::Operand;
 use crate::pair_cursor::PairCursor;
 use crate::rows::Rows;
-use crate::search::{bound_of, entry_at, entry_count};
+use crate::search::{bound_of, entry_at, entry_count, star_bound};
 use crate::union::{begin, entries, pair};
 use crate::vector_index::VectorIndex;
 use std::alloc::{AllocError, Global};
@@ -60,7 +60,7 @@ fn adds_nothing(row: &[u64], other: &[u64], star: &[u64]) -> bool
 {
     for i in 0..entry_count(row) {
         let (author, n) = entry_at(row, i);
-        if n > bound_of(other, author) && n > bound_of(star, author) {
+        if n > bound_of(other, author) && n > star_bound(star, author) {
             return false;
         }
     }

@@ -6,7 +6,7 @@ ghost use Rattle.item_knowledge.specs.Excess.{exceeding};
 ghost use Rattle.item_knowledge.specs.Rows.{pairs, IsRow};
 
 use crate::pair_cursor::PairCursor;
-use crate::search::bound_of;
+use crate::search::star_bound;
 use std::alloc::AllocError;
 
 /// Replaces `out` by a row: the entries of the join of `xs` and `ys` whose bounds are above the star's.
@@ -30,7 +30,7 @@ pub(crate) fn join(
     out.reserve(xs.len().saturating_add(ys.len()))?;
     let mut cursor = PairCursor::new();
     while let Some((author, n)) = cursor.next_entry(xs, ys) {
-        if bound_of(star, author) < n {
+        if star_bound(star, author) < n {
             out.push(author)?;
             out.push(n)?;
         }

@@ -11,7 +11,7 @@ use crate::index::IndexEntry;
 use crate::join::join;
 use crate::operand::Operand;
 use crate::rows::Rows;
-use crate::search::{bound_of, entry_at, entry_count, entry_place, number_of};
+use crate::search::{bound_of, entry_at, entry_count, entry_place, number_of, star_bound};
 use crate::union::{begin, entries, union};
 use std::alloc::{AllocError, Global};
 use std::marker::Model;
@@ -109,7 +109,7 @@ impl KnowledgeRows {
         if beyond > 0 {
             return beyond;
         }
-        bound_of(&self.star, author)
+        star_bound(&self.star, author)
     }
 
     /// Fragment number `k`. It is lent, and nothing is copied.

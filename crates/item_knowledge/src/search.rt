@@ -119,6 +119,26 @@ pub(crate) fn bound_of(row: &[u64], author: u64) -> u64
     value_of(SortedPairs::Row(row), author)
 }
 
+/// The bound of an author in a star, 0 where it has none. A star mostly has a version of each device, so the entry is looked for at
+/// its device's place first.
+#[tactic(auto, using(crate::proofs::SearchLemmas::found_there))]
+#[inline(always)]
+pub(crate) fn star_bound(star: &[u64], author: u64) -> u64
+    requires row { IsRow star.now }
+    requires order { in_order (pairs star.now) ≡ true }
+    ensures { result ≡ bound (pairs star.now) author }
+{
+    // An author's word has the device in its upper half.
+    let place = (author >> 32) as usize;
+    if place < entry_count(star) {
+        let (found, n) = entry_at(star, place);
+        if found == author {
+            return n;
+        }
+    }
+    bound_of(star, author)
+}
+
 /// The place of an author's entry in a row of sorted entries that has one.
 pub(crate) fn entry_place(row: &[u64], author: u64) -> usize
     requires row { IsRow row.now }
