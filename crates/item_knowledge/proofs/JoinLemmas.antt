@@ -1,5 +1,5 @@
 -- The join of two vectors.
-use Rattle.std.proofs.Common.{◌≡◌, ℕ, zero, suc, ◌<◌, ◌≤◌, ◌+◌, ◌*◌, true, max, ◌||◌, List, [], ◌∷◌, ◌++◌, length, get_or, set, drop, refl, sym, ap, ◌∙◌, arith, append-nil}
+use Rattle.std.proofs.Common.{◌≡◌, ℕ, zero, suc, ◌<◌, ◌≤◌, ◌+◌, ◌*◌, true, max, ◌||◌, List, [], ◌∷◌, ◌++◌, length, get_or, set, drop, refl, sym, subst, ap, ◌∙◌, arith, append-nil}
 use Rattle.std.specs.List.{list_all}
 use Rattle.std.proofs.lemmas.Bool.{and_parts, and_from}
 use Rattle.std.proofs.lemmas.Bool.Decides.{nat_tests}
@@ -16,7 +16,8 @@ use Rattle.item_knowledge.proofs.TableLemmas.{put_length, merge_at, merge_order,
 use Rattle.item_knowledge.proofs.EntryLemmas.{vector_parts, bound_below, denotes-bound}
 use Rattle.item_knowledge.proofs.FragmentLemmas.{leq_at}
 use Rattle.item_knowledge.proofs.MergeLemmas.{drop_next}
-use Rattle.item_knowledge.proofs.SearchLemmas.{first_below}
+use Rattle.item_knowledge.specs.Searching.{IsUpTo, IsBetween}
+use Rattle.item_knowledge.proofs.SearchLemmas.{first_below, rise, order_from, up_to_more}
 
 pub vector_order : (es : List Entry) → is_vector es ≡ true → in_order es ≡ true
 vector_order es h = (and_parts (in_order es) (list_all (λ (e : Entry). is_entry e) es) h).0
@@ -76,6 +77,14 @@ row_put (x ∷ es) (suc i) a n h l e m =
 
 pub at_first : (at : PairCursor) (xs ys : List ℕ) → at.left ≡ 0 → at.right ≡ 0 → entries_left at xs ys ≡ joined (pairs xs) (pairs ys)
 at_first at xs ys l r = λ i. joined (drop (l i) (pairs xs)) (drop (r i) (pairs ys))
+
+-- a place in a list up to which the first author's keys are smaller is one for the authors behind it
+pub up_to_behind : (at new : PairCursor) (xs ys : List ℕ) (zs : List Entry) (place : ℕ) (d e : Entry) (es : List Entry) → in_order (pairs ys) ≡ true
+    → entries_left at xs ys ≡ d ∷ entries_left new xs ys → entries_left new xs ys ≡ e ∷ es → IsBetween d.0 zs place place → IsUpTo e.0 zs place
+up_to_behind at new xs ys zs place d e es order first next there =
+    let all : d ∷ e ∷ es ≡ entries_left at xs ys = ap (λ fs. d ∷ fs) (sym next) ∙ sym first in
+    let rising = subst (λ fs. in_order fs ≡ true) (sym all) (merge_order (λ n. n) (λ n m. max n m) (λ m. m) (drop at.left (pairs xs)) (drop at.right (pairs ys)) (order_from (pairs ys) at.right order)) in
+    up_to_more zs d.0 e.0 place (omega (arith, rise (d ∷ e ∷ es) rising 0 1 (0, 0) (omega arith) (omega arith))) there
 
 -- all of it is written
 pub exceeding_done : (star now all : List Entry) (out : List ℕ) → now ≡ [] → out ++ flat (exceeding star now) ≡ flat all → out ≡ flat all

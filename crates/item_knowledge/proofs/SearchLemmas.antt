@@ -4,7 +4,7 @@ use Rattle.std.proofs.lemmas.Bool.{and_parts, ltb-true, cases_lt, cases_eq}
 use Rattle.std.proofs.lemmas.Bool.Decides.{nat_tests}
 use Rattle.std.proofs.lemmas.List.{drop_all}
 use Rattle.item_knowledge.specs.Rows.{IsPlaceOf}
-use Rattle.item_knowledge.specs.Searching.{AreBelow, IsBetween}
+use Rattle.item_knowledge.specs.Searching.{AreBelow, IsUpTo, IsBetween}
 use Rattle.item_knowledge.specs.Tables.{keys_pass, in_order, at, merge}
 use Rattle.item_knowledge.proofs.MergeLemmas.{drop_next, all_at}
 use Rattle.item_knowledge.proofs.TableLemmas.{at_above, above_all, merge_left, merge_right, merge_both}
@@ -28,7 +28,7 @@ absent_at (x ∷ xs) p zero o h n =
     grind (arith, nat_tests, at_above 0 xs p, above_all p x.0 xs)
 absent_at (x ∷ xs) p (suc i) o h n =
     let less = h.below 0 (omega arith) in
-    let rest : IsBetween p xs i i = record { below = λ k g. h.below (suc k) (omega arith); from = λ k g m. h.from (suc k) (omega arith) (omega arith) } in
+    let rest : IsBetween p xs i i = record { inside = omega (arith, h.inside); below = λ k g. h.below (suc k) (omega arith); from = λ k g m. h.from (suc k) (omega arith) (omega arith) } in
     grind (arith, nat_tests, absent_at xs p i (and_parts (keys_pass (λ k. ltb x.0 k) xs) (in_order xs) o).1 rest (λ l. n (omega arith)))
 
 -- where no key before a place reaches one that counts, and none from it on is smaller, the place is its own
@@ -48,6 +48,15 @@ below_to xs key place h l less k m = grind (arith, rise xs h k place (0, 0))
 -- where a place has another one, none from it on is smaller
 pub from_on : (xs : List (ℕ × ℕ)) (key place k : ℕ) → in_order xs ≡ true → key ≤ (get_or xs place (0, 0)).0 → place ≤ k → k < length xs → key ≤ (get_or xs k (0, 0)).0
 from_on xs key place k h least le l = grind (arith, rise xs h place k (0, 0))
+
+-- A place up to which all keys are smaller
+
+pub up_to_more : (xs : List (ℕ × ℕ)) (a b place : ℕ) → a ≤ b → IsBetween a xs place place → IsUpTo b xs place
+up_to_more xs a b place le h = record { inside = h.inside; below = λ k l. omega (arith, h.below k l) }
+
+-- along other keys in order
+pub up_to_next : (xs ys : List (ℕ × ℕ)) (i place : ℕ) → in_order xs ≡ true → i + 1 < length xs → IsBetween (get_or xs i (0, 0)).0 ys place place → IsUpTo (get_or xs (i + 1) (0, 0)).0 ys place
+up_to_next xs ys i place o l h = up_to_more ys (get_or xs i (0, 0)).0 (get_or xs (i + 1) (0, 0)).0 place (omega (arith, rise xs o i (i + 1) (0, 0) (omega arith) l)) h
 
 -- A table, from a place on
 

@@ -22,7 +22,13 @@ key_limit (Row row) = 18446744073709551616
 abbrev pub AreBelow : ℕ → List (ℕ × ℕ) → ℕ → Type 0
 AreBelow key xs place = (k : ℕ) → k < place → (get_or xs k (0, 0)).0 < key
 
+-- a place up to which all keys are smaller
+pub record IsUpTo (key : ℕ) (xs : List (ℕ × ℕ)) (place : ℕ) : Type 0 where
+  pub inside : place ≤ length xs
+  pub below : AreBelow key xs place
+
 -- all keys before the first place are smaller, and none from the second place on is
 pub record IsBetween (key : ℕ) (xs : List (ℕ × ℕ)) (low high : ℕ) : Type 0 where
+  pub inside : high ≤ length xs
   pub below : AreBelow key xs low
   pub from : (k : ℕ) → high ≤ k → k < length xs → key ≤ (get_or xs k (0, 0)).0

@@ -18,7 +18,7 @@ use crate::join::join;
 use crate::operand::Operand;
 use crate::pair_cursor::PairCursor;
 use crate::rows::Rows;
-use crate::search::{bound_of, entry_at, entry_count, star_bound};
+use crate::search::{SortedPairs, bound_of, entry_at, entry_count, place_near, value_at};
 use crate::union::{begin, entries, pair};
 use crate::vector_index::VectorIndex;
 use std::alloc::{AllocError, Global};
@@ -35,13 +35,17 @@ struct Lists {
 #[inline(always)]
 fn exceeds(row: &[u64], star: &[u64]) -> bool
     requires row { IsRow row.now }
+    requires order { in_order (pairs row.now) ≡ true }
     requires star_row { IsRow star.now }
     requires star { in_order (pairs star.now) ≡ true }
     ensures { result ≡ exceeds_all (pairs star.now) (pairs row.now) }
 {
+    let bounds = SortedPairs::Row(star);
+    let mut place = 0;
     for i in 0..entry_count(row) {
         let (author, n) = entry_at(row, i);
-        if n <= bound_of(star, author) {
+        place = place_near(bounds, place, author);
+        if n <= value_at(bounds, place, author) {
             return false;
         }
     }
@@ -52,15 +56,19 @@ fn exceeds(row: &[u64], star: &[u64]) -> bool
 #[inline(always)]
 fn adds_nothing(row: &[u64], other: &[u64], star: &[u64]) -> bool
     requires row { IsRow row.now }
+    requires order { in_order (pairs row.now) ≡ true }
     requires other_row { IsRow other.now }
     requires star_row { IsRow star.now }
     requires other { in_order (pairs other.now) ≡ true }
     requires star { in_order (pairs star.now) ≡ true }
     ensures { result ≡ is_covered (pairs star.now) (pairs other.now) (pairs row.now) }
 {
+    let bounds = SortedPairs::Row(other);
+    let mut place = 0;
     for i in 0..entry_count(row) {
         let (author, n) = entry_at(row, i);
-        if n > bound_of(other, author) && n > star_bound(star, author) {
+        place = place_near(bounds, place, author);
+        if n > value_at(bounds, place, author) && n > bound_of(star, author) {
             return false;
         }
     }

@@ -6,7 +6,7 @@ ghost use Rattle.item_knowledge.specs.Excess.{exceeding};
 ghost use Rattle.item_knowledge.specs.Rows.{pairs, IsRow};
 
 use crate::pair_cursor::PairCursor;
-use crate::search::star_bound;
+use crate::search::{SortedPairs, place_near, value_at};
 use std::alloc::AllocError;
 
 /// Replaces `out` by a row: the entries of the join of `xs` and `ys` whose bounds are above the star's.
@@ -29,8 +29,11 @@ pub(crate) fn join(
     out.clear();
     out.reserve(xs.len().saturating_add(ys.len()))?;
     let mut cursor = PairCursor::new();
+    let bounds = SortedPairs::Row(star);
+    let mut place = 0;
     while let Some((author, n)) = cursor.next_entry(xs, ys) {
-        if star_bound(star, author) < n {
+        place = place_near(bounds, place, author);
+        if value_at(bounds, place, author) < n {
             out.push(author)?;
             out.push(n)?;
         }

@@ -11,7 +11,9 @@ use crate::index::IndexEntry;
 use crate::join::join;
 use crate::operand::Operand;
 use crate::rows::Rows;
-use crate::search::{bound_of, entry_at, entry_count, entry_place, number_of, star_bound};
+use crate::search::{
+    SortedPairs, bound_of, entry_at, entry_count, entry_place, place_near, value_at,
+};
 use crate::union::{begin, entries, union};
 use std::alloc::{AllocError, Global};
 use std::marker::Model;
@@ -109,7 +111,7 @@ impl KnowledgeRows {
         if beyond > 0 {
             return beyond;
         }
-        star_bound(&self.star, author)
+        bound_of(&self.star, author)
     }
 
     /// Fragment number `k`. It is lent, and nothing is copied.
@@ -264,10 +266,14 @@ pub(crate) fn is_within(
     if !rows.is_star_leq(others) {
         return false;
     }
+    let numbers = SortedPairs::Index(others_index);
+    let mut place = 0;
     for i in 0..index.len() {
         let (picture, own) = index[i];
         let number = own as usize;
-        let other = number_of(others_index, picture);
+        let key = u64::from(picture);
+        place = place_near(numbers, place, key);
+        let other = value_at(numbers, place, key) as usize;
         if !rows.is_leq(number, others, other) {
             return false;
         }

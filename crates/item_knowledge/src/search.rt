@@ -3,9 +3,12 @@ ghost use Rattle.std.specs.Prelude.{◌≡◌, ◌<◌, true, length, get_or};
 ghost use Rattle.item_knowledge.specs.Tables.{in_order, at};
 ghost use Rattle.item_knowledge.specs.Entries.{bound};
 ghost use Rattle.item_knowledge.specs.Rows.{pairs, IsRow, IsPlaceOf};
-ghost use Rattle.item_knowledge.specs.Searching.{pairs_in, key_limit, IsWhole, IsBetween};
+ghost use Rattle.item_knowledge.specs.Searching.{pairs_in, key_limit, IsWhole, IsUpTo, IsBetween};
 
 use crate::index::IndexEntry;
+
+// So many pairs are walked before a search goes on by halves.
+const NEAR: usize = 8;
 
 /// A lent list of pairs, sorted by key: the pictures of an index with the numbers of their fragments, or the authors of a row with
 /// their bounds.
@@ -65,13 +68,14 @@ pub(crate) fn pair_at(list: SortedPairs<'_>, i: usize) -> (u64, u64)
     }
 }
 
-// The first place whose key isn't smaller, or the list's end.
-fn place_of(list: SortedPairs<'_>, key: u64) -> usize
+// The first place from `from` on whose key isn't smaller, or the list's end. It is searched for by halves.
+fn place_from(list: SortedPairs<'_>, from: usize, key: u64) -> usize
     requires whole { IsWhole list }
     requires order { in_order (pairs_in list) ≡ true }
+    requires from { IsUpTo key (pairs_in list) from }
     ensures { IsBetween key (pairs_in list.entry) result result }
 {
-    let mut low = 0;
+    let mut low = from;
     let mut high = pair_count(list);
     while low < high {
         let middle = low + (high - low) / 2;
@@ -85,6 +89,41 @@ fn place_of(list: SortedPairs<'_>, key: u64) -> usize
     low
 }
 
+/// The first place from `from` on whose key isn't smaller, or the list's end. It is mostly near, so a few pairs are walked before
+/// the search goes on by halves.
+pub(crate) fn place_near(list: SortedPairs<'_>, from: usize, key: u64) -> usize
+    requires whole { IsWhole list }
+    requires order { in_order (pairs_in list) ≡ true }
+    requires from { IsUpTo key (pairs_in list) from }
+    ensures { IsBetween key (pairs_in list.entry) result result }
+{
+    let end = pair_count(list).min(from.saturating_add(NEAR));
+    let mut place = from;
+    while place < end {
+        let (found, _value) = pair_at(list, place);
+        if found >= key {
+            return place;
+        }
+        place += 1;
+    }
+    place_from(list, place, key)
+}
+
+/// The value beside a key, if `place` is the first whose key isn't smaller; 0 where the list hasn't got the key.
+#[inline(always)]
+pub(crate) fn value_at(list: SortedPairs<'_>, place: usize, key: u64) -> u64
+    requires whole { IsWhole list }
+    requires order { in_order (pairs_in list) ≡ true }
+    requires place { IsBetween key (pairs_in list) place place }
+    ensures { result ≡ at 0 (pairs_in list.entry) key }
+{
+    if place >= pair_count(list) {
+        return 0;
+    }
+    let (found, value) = pair_at(list, place);
+    if found == key { value } else { 0 }
+}
+
 // The value beside a key, 0 where the list hasn't got the key.
 #[inline(always)]
 fn value_of(list: SortedPairs<'_>, key: u64) -> u64
@@ -92,12 +131,7 @@ fn value_of(list: SortedPairs<'_>, key: u64) -> u64
     requires order { in_order (pairs_in list) ≡ true }
     ensures { result ≡ at 0 (pairs_in list.entry) key }
 {
-    let place = place_of(list, key);
-    if place >= pair_count(list) {
-        return 0;
-    }
-    let (found, value) = pair_at(list, place);
-    if found == key { value } else { 0 }
+    value_at(list, place_from(list, 0, key), key)
 }
 
 /// The number of the fragment to which an index leads from a picture, 0 for the star.
@@ -119,31 +153,11 @@ pub(crate) fn bound_of(row: &[u64], author: u64) -> u64
     value_of(SortedPairs::Row(row), author)
 }
 
-/// The bound of an author in a star, 0 where it has none. A star mostly has a version of each device, so the entry is looked for at
-/// its device's place first.
-#[tactic(auto, using(crate::proofs::SearchLemmas::found_there))]
-#[inline(always)]
-pub(crate) fn star_bound(star: &[u64], author: u64) -> u64
-    requires row { IsRow star.now }
-    requires order { in_order (pairs star.now) ≡ true }
-    ensures { result ≡ bound (pairs star.now) author }
-{
-    // An author's word has the device in its upper half.
-    let place = (author >> 32) as usize;
-    if place < entry_count(star) {
-        let (found, n) = entry_at(star, place);
-        if found == author {
-            return n;
-        }
-    }
-    bound_of(star, author)
-}
-
 /// The place of an author's entry in a row of sorted entries that has one.
 pub(crate) fn entry_place(row: &[u64], author: u64) -> usize
     requires row { IsRow row.now }
     requires order { in_order (pairs row.now) ≡ true }
     ensures { 0 < bound (pairs row.now) author → IsPlaceOf (pairs row.now) result author }
 {
-    place_of(SortedPairs::Row(row), author)
+    place_from(SortedPairs::Row(row), 0, author)
 }

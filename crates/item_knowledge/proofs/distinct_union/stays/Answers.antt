@@ -14,6 +14,14 @@ pub adds_nothing-requires-clause-other : goal.adds_nothing-requires-clause-other
 adds_nothing-requires-clause-other c =
     subst (λ es. in_order es ≡ true) (sym c.entries-row.ensures.entries) (entries_order (fragments c.args.left) c.args.left.index.now c.args.numbers.0 c.args.left.operand c.requires.a)
 
+pub adds_nothing-requires-clause-order : goal.adds_nothing-requires-clause-order
+adds_nothing-requires-clause-order c =
+    subst (λ es. in_order es ≡ true) (sym c.entries.ensures.entries) (entries_order (fragments c.args.right) c.args.right.index.now c.args.numbers.1 c.args.right.operand c.requires.b)
+
+pub exceeds-requires-clause-order : goal.exceeds-requires-clause-order
+exceeds-requires-clause-order c =
+    subst (λ es. in_order es ≡ true) (sym c.entries-row.ensures.entries) (entries_order (fragments c.args.left) c.args.left.index.now c.args.numbers.0 c.args.left.operand c.requires.a)
+
 pub exceeds-requires-clause-star : goal.exceeds-requires-clause-star
 exceeds-requires-clause-star c = subst (λ es. in_order es ≡ true) (sym c.requires.risen) (exceeding_order (pairs c.args.left.star.now) (pairs c.args.star.now) c.requires.star)
 

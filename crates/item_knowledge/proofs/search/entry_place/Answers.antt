@@ -3,4 +3,4 @@ use Rattle.item_knowledge.proofs.SearchLemmas.{place_there}
 use Rattle.item_knowledge.proofs.search.entry_place.Goals as goal
 
 pub returns : goal.returns
-returns c some = place_there (pairs c.args.row.now) c.args.author c.place_of.result c.requires.order c.place_of.ensures some
+returns c some = place_there (pairs c.args.row.now) c.args.author c.place_from.result c.requires.order c.place_from.ensures some

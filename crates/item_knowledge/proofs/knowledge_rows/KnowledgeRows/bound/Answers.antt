@@ -14,4 +14,4 @@ pub returns : goal.returns
 returns c =
     let at = shown_at c.self.inside.star.items c.self.inside.rows c.args.self.now c.self.invariant c.self.view_is c.args.k c.requires.number in
     let beyond = c.bound_of-beyond.ensures ∙ ap (λ es. bound es c.args.author) c.entries.ensures.entries in
-    omega (arith, at.bounds c.args.author, beyond, c.star_bound.ensures ∙ ap (λ ws. bound (pairs ws) c.args.author) c.deref.ensures.value)
+    omega (arith, at.bounds c.args.author, beyond, c.bound_of.ensures ∙ ap (λ ws. bound (pairs ws) c.args.author) c.deref.ensures.value)

@@ -1,11 +1,10 @@
-use Rattle.std.proofs.Common.{◌-◌, ◌≤◌, length}
+use Rattle.std.proofs.Common.{◌-◌, ◌≤◌}
 use Rattle.item_knowledge.specs.Searching.{pairs_in, IsBetween}
-use Rattle.item_knowledge.proofs.search.place_of.Given as goal
+use Rattle.item_knowledge.proofs.search.place_from.Given as goal
 
 abbrev pub invariant-loop-low : goal.invariant-loop-low
 invariant-loop-low l = record {
   ends : l.low ≤ l.high;
-  inside : l.high ≤ length (pairs_in l.list);
   between : IsBetween l.key (pairs_in l.list) l.low l.high;
 }
 
