@@ -1,4 +1,4 @@
-// What a device knows, with a cache of versions that were found to be known.
+// What a device knows, with a cache of known versions.
 ghost use Rattle.std.specs.Prelude.{◌≡◌, true};
 ghost use Rattle.item_knowledge.specs.Fragments as spec;
 
@@ -9,8 +9,8 @@ use photo_version::Version;
 use std::alloc::{AllocError, Global};
 use std::marker::Model;
 
-/// What a device knows, with a cache of versions that were found to be known. A look-up in the cache takes a few steps.
-/// Contracts see the knowledge alone.
+/// What a device knows, with a cache of versions that were found to be known or were taken. A look-up in the cache takes a
+/// few steps. Contracts see the knowledge alone.
 #[derive(Debug, Drop)]
 pub(crate) struct CachedKnowledge {
     knowledge: Knowledge,
@@ -33,7 +33,7 @@ impl Model for CachedKnowledge {
 
 impl CachedKnowledge {
     ghost use Rattle.std.specs.Prelude.{◌≡◌, ℕ, ◌<◌, ◌≤◌, true, not, filter, None, IfOk, IfSome, OnOk, OnErr};
-    ghost use Rattle.std.specs.List.{list_any};
+    ghost use Rattle.std.specs.List.{list_any, AllByRecursion};
     ghost use Rattle.std.specs.Option.{is_some};
     ghost use Rattle.photo_version.specs.Author.{Author};
     ghost use Rattle.photo_version.specs.Version as versions;
@@ -42,7 +42,7 @@ impl CachedKnowledge {
     ghost use Rattle.item_knowledge.specs.Staged.{settled, IsStagedUnion};
     ghost use Rattle.photo_device.specs.Held.{are_in_order};
     ghost use Rattle.photo_device.specs.Learning.{IsNextKnown, IsOwnLearned};
-    ghost use Rattle.photo_device.specs.Own.{KnowsNoMore};
+    ghost use Rattle.photo_device.specs.Own.{IsKnownBy, KnowsNoMore};
     ghost use Rattle.photo_device.specs.Staging.{gained};
 
     /// The knowledge with an empty cache. Takes no memory.
@@ -120,6 +120,16 @@ impl CachedKnowledge {
         ensures { self.new ≡ self.old }
     {
         self.cache.reserve(version);
+    }
+
+    /// Caches versions that are known and have places. What is known stays. Takes no memory.
+    pub fn cache_all(&mut self, helds: &[SharedHeld])
+        requires { AllByRecursion (IsKnownBy self.old.known) helds.now }
+        ensures { self.new ≡ self.old }
+    {
+        for held in helds {
+            self.cache.insert(held.picture(), held.version());
+        }
     }
 
     /// Copies of the set's versions that aren't known. The only error is refused memory; no memory is wanted where all

@@ -406,16 +406,19 @@ impl Device {
         } = prepared;
         self.store.give_up(&drops.stored);
         self.out.give_up(&drops.waiting);
+        let takes = takes.into_vec();
+        self.knowledge.commit();
+        self.knowledge.cache_all(&takes);
+        self.knowledge.cache_all(&handed);
         take_in(
             &self.filter,
             handed,
-            takes.into_vec(),
+            takes,
             &mut self.store,
             in_store,
             &mut self.out,
             in_out,
         );
-        self.knowledge.commit();
     }
 
     /// Replaces the filter by a narrower one. The store's versions that the new filter doesn't match go to the out.

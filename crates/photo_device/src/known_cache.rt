@@ -18,8 +18,8 @@ const DEVICES: usize = 256;
 
 const EPOCHS: usize = 32;
 
-/// Versions that were found to be known, with their pictures. The cache is there for speed alone: a look-up takes a few steps,
-/// while a knowledge is searched.
+/// Versions that were found to be known or were taken, with their pictures. The cache is there for speed alone: a look-up takes
+/// a few steps, while a knowledge is searched.
 ///
 /// Each device has a row for each of its epochs. A row has a place for each version that the device made in that epoch, by its
 /// number: the picture, or 0 where the version isn't cached. Versions of late epochs and great numbers are never cached.
