@@ -14,7 +14,7 @@ not_later a = and_right (same_device a a) (ltb a.word a.word) (le-ltb a.word a.w
 pub next_device : (a : Author) → epoch_of_author a < 4294967295 → device_of_author (next_author a) ≡ device_of_author a
 next_device a h = omega arith
 
-next_is_later : (a : Author) → epoch_of_author a < 4294967295 → is_earlier_epoch a (next_author a) ≡ true
+pub next_is_later : (a : Author) → epoch_of_author a < 4294967295 → is_earlier_epoch a (next_author a) ≡ true
 next_is_later a h =
     let same : a.word / 4294967296 ≡ (a.word + 1) / 4294967296 = omega arith in
     and_from (same_device a (next_author a)) (author_before a (next_author a)) (eq-eqb (device_of_author a) (device_of_author (next_author a)) same) (lt-ltb a.word (a.word + 1) (omega arith))

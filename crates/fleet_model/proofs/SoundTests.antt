@@ -19,7 +19,7 @@ in_place [] k d h = absurd (omega arith)
 in_place (x ∷ xs) zero d h = here refl
 in_place (x ∷ xs) (suc k) d h = there (in_place xs k d (omega arith))
 
-place_of : {X : Type 0} {x : X} (xs : List X) → In x xs → (k : ℕ) × (k < length xs) × ((d : X) → get_or xs k d ≡ x)
+pub place_of : {X : Type 0} {x : X} (xs : List X) → In x xs → (k : ℕ) × (k < length xs) × ((d : X) → get_or xs k d ≡ x)
 place_of [] i = in_nothing i
 place_of (x ∷ xs) (here e) = (0, omega arith, λ d. sym e)
 place_of (x ∷ xs) (there i) = let r = place_of xs i in (suc r.0, omega arith, r.2)

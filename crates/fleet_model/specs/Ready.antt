@@ -1,4 +1,4 @@
--- What a pull asks of its devices.
+-- Devices that are ready for any pull between two of them. A pull asks less of its two devices.
 use Rattle.std.specs.Prelude.{◌≡◌, ℕ, ◌<◌, ◌≤◌, true, false, List, length}
 use Rattle.photo_version.specs.Author.{device_of_author, is_earlier_epoch}
 use Rattle.photo_version.specs.Version.{Version, version}

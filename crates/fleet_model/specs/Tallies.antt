@@ -7,16 +7,13 @@ use Rattle.fleet_model.specs.Answers.{RightAnswer, Made, NotHeld, NotNarrower, N
 use Rattle.fleet_model.specs.Runs.{Fleet, reports_of}
 use Rattle.fleet_model.specs.declared.command.Command.{Command}
 use Rattle.fleet_model.specs.declared.command.Command.TheVariants as command
+use Rattle.fleet_model.specs.declared.command.CommandKind.{CommandKind}
+use Rattle.fleet_model.specs.declared.command.CommandKind.TheVariants.{Change, Pull, Question}
 use Rattle.fleet_model.specs.declared.tally.Tally.{Tally}
 use Rattle.fleet_model.specs.declared.tally.Totals.{Totals}
 
 -- a command changes a device, is a pull, or asks for a report
-pub data Kind : Type 0 where
-  Change : Kind
-  Pull : Kind
-  Question : Kind
-
-abbrev pub kind_of : Command → Kind
+abbrev pub kind_of : Command → CommandKind
 kind_of (command.New device picture record_) = Change
 kind_of (command.Edit device picture record_) = Change
 kind_of (command.Remove device picture) = Change
@@ -29,17 +26,17 @@ kind_of (command.Conflicts device) = Question
 kind_of (command.Knowledge device) = Question
 kind_of (command.Knows device picture v) = Question
 
-abbrev pub is_change : Kind → Bool
+abbrev pub is_change : CommandKind → Bool
 is_change Change = true
 is_change Pull = false
 is_change Question = false
 
-abbrev pub is_pull : Kind → Bool
+abbrev pub is_pull : CommandKind → Bool
 is_pull Change = false
 is_pull Pull = true
 is_pull Question = false
 
-abbrev pub is_question : Kind → Bool
+abbrev pub is_question : CommandKind → Bool
 is_question Change = false
 is_question Pull = false
 is_question Question = true

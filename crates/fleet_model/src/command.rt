@@ -62,3 +62,14 @@ pub enum Command {
         version: Version,
     },
 }
+
+/// What a command does: one of three.
+#[derive(Clone, Copy, Debug, PartialEq, Eq, Drop)]
+pub enum CommandKind {
+    /// It changes one device, or is refused.
+    Change,
+    /// It is a pull.
+    Pull,
+    /// It asks for a report, and changes nothing.
+    Question,
+}

@@ -6,5 +6,5 @@ mod command;
 pub mod laws;
 mod tally;
 
-pub use command::Command;
+pub use command::{Command, CommandKind};
 pub use tally::{Tally, Totals};

@@ -1,4 +1,5 @@
 pub mod Calls
 pub mod Mapped
+pub mod Receipts
 pub mod Sets
 pub mod Sorting

@@ -3,7 +3,7 @@ ghost use Rattle.std.specs.Prelude.{◌≡◌, ◌<◌, IfOk, OnOk, OnErr};
 ghost use Rattle.std.specs.List.{list_any};
 ghost use Rattle.photo_version.specs.Author.{epoch_of_author};
 ghost use Rattle.photo_model.specs.Entry as model;
-ghost use Rattle.photo_model.specs.Device.{opening, known, knows_entry, selects, holds, made, next_version, new_place};
+ghost use Rattle.photo_model.specs.Device.{opening, known, knows_entry, selects, holds, made, next_version, new_place, narrowed};
 ghost use Rattle.photo_model.specs.Refiltered.{refiltered};
 ghost use Rattle.test_list_device.specs.Sets.{listed};
 ghost use Rattle.test_list_device.specs.Entries.{entry_of};
@@ -145,5 +145,38 @@ impl ListDevice {
             of,
         };
         Ok(())
+    }
+
+    /// Takes a narrower filter: what that doesn't select moves to the out. Its only error is want of memory, after which the device
+    /// is as it was.
+    pub fn narrow(&mut self, alloc: Global, wanted: Filter) -> Result<(), AllocError>
+        ensures shows { OnOk result (shown self.new ≡ narrowed wanted (shown self.old)) }
+        ensures err { OnErr result (self.new ≡ self.old) }
+    {
+        let mut store = copied(alloc, &self.store)?;
+        let leaving = copied(alloc, &self.store)?;
+        let mut staying = Vec::new(alloc);
+        let mut out = copied(alloc, &self.out)?;
+        sort_in(&wanted, leaving, &mut staying, &mut out)?;
+        store.retain(|e| wanted.matches(&e.content));
+        self.filter = wanted;
+        self.store = store;
+        self.out = out;
+        Ok(())
+    }
+
+    /// A copy, which shares nothing. Its only error is want of memory.
+    pub fn try_clone(&self, alloc: Global) -> Result<ListDevice, AllocError>
+        ensures { IfOk result (λ copy. shown copy ≡ shown self.now) }
+    {
+        Ok(ListDevice {
+            author: self.author,
+            filter: self.filter.try_clone()?,
+            counter: self.counter,
+            store: copied(alloc, &self.store)?,
+            out: copied(alloc, &self.out)?,
+            every: Vec::from_slice(alloc, &self.every)?,
+            of: Vec::from_slice(alloc, &self.of)?,
+        })
     }
 }

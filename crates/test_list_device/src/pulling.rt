@@ -38,8 +38,8 @@ fn taken(
     Ok(list)
 }
 
-// Copies the entries that are handed over to a target. Its only error is want of memory.
-fn handed(
+/// Copies the entries that are handed over to a target. Its only error is want of memory.
+pub(crate) fn handed(
     alloc: Global,
     target: &ListDevice,
     source: &ListDevice,
@@ -178,6 +178,23 @@ fn target_then(
         of,
     };
     Ok((next, counts))
+}
+
+/// The target takes from a copy of the source what a pull would give it. Gives the counts of what was moved and told. Its only error
+/// is want of memory, after which the target is as it was.
+pub(crate) fn pull_from(
+    alloc: Global,
+    target: &mut ListDevice,
+    source: &ListDevice,
+) -> Result<PullCounts, AllocError>
+    ensures target { OnOk result (shown target.new ≡ pulled (shown target.old) (shown source.now)) }
+    ensures counts { IfOk result (λ counts. counts ≡ counts_of (shown target.old) (shown source.now)) }
+    ensures kept { OnErr result (target.new ≡ target.old) }
+{
+    let news = told(alloc, target, source)?;
+    let (next, counts) = target_then(alloc, target, source, news)?;
+    *target = next;
+    Ok(counts)
 }
 
 /// The target takes from the source what its filter selects, gets what the source hands over, and learns what the source knows.

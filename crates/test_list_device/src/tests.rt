@@ -1,5 +1,5 @@
-// Worked examples: what devices make, and what pulls move and tell and what devices learn by them.
-use crate::{ListDevice, ListEntry, pull};
+// Worked examples: what devices make, what pulls move and tell and what devices learn by them, and what a receipt settles.
+use crate::{ListDevice, ListEntry, ListReplica, pull};
 use photo_filter_rules::Filter;
 use photo_model::{Place, PullCounts};
 use photo_record::{Day, PicNo, Rating, Record, Words};
@@ -158,4 +158,29 @@ fn a_conflict_is_held_until_the_next_edit(rt: HostRuntime) {
 #[test]
 fn a_notice_drops_what_it_supersedes(rt: HostRuntime) {
     assert!(rt; is_run(rt.alloc(), ["day >= 2024-01-01", "rating >= 4"], NOTICE));
+}
+
+// Whether the second of two replicas takes what waits in the first one's out, and the first then gives it up.
+fn is_settled(alloc: Global) -> Option<bool> {
+    let mut first = ListReplica::new(alloc, opened(alloc, 0, "rating >= 4")?);
+    let mut second = ListReplica::new(alloc, opened(alloc, 1, "rating >= 4")?);
+    if first.device.counter == u32::MAX {
+        return None;
+    }
+    let content = rated(alloc, 2)?;
+    first.make(alloc, PicNo::new(1)?, &content).ok()?;
+    let copy = first.copy(alloc).ok()?;
+    let counts = second.take(alloc, &copy).ok()?;
+    let settled = first.settle(&second);
+    Some(
+        counts.handed == 1
+            && settled == 1
+            && first.device.out.is_empty()
+            && second.device.out.len() == 1,
+    )
+}
+
+#[test]
+fn a_receipt_settles_what_was_handed_over(rt: HostRuntime) {
+    assert!(rt; is_settled(rt.alloc()) == Some(true));
 }

@@ -1,0 +1,11 @@
+mod Facts
+mod Following
+mod RightSteps
+mod Steps
+mod RightChanges
+mod Replicas
+mod EachEvent
+mod HouseholdRuns
+mod ScriptPulls
+mod Worked
+mod PullEvents
