@@ -2,7 +2,9 @@
 
    What holds of every call:
 
-   - It is proved, but for the last two, for callers that keep the conditions told here. Nothing checks that they do.
+   - What a call does and leaves is proved, but for the last two calls, for callers that keep the conditions told here and
+     those of a session, which stand beside 'photofleet_session'. Nothing checks that they do. That memory was refused where
+     a call says so, and that each block is given back, is tested and not proved.
    - A pointer is never null, also where the length beside it is 0, and points to as many bytes as that says. No two of
      the memories that a call is given overlap, and no other thread writes to what it reads or reads what it writes.
    - A call starts no thread, waits for nothing, reads no file and prints nothing. It takes memory by malloc and realloc
@@ -50,8 +52,8 @@ enum {
 uint8_t photofleet_plain(const uint8_t *script, size_t script_length, uint8_t *out, size_t out_length, size_t *written);
 
 /* A session: lines that were given one after another, with what their run prints. It begins closed, as '= {0}'. No other
-   program part reads or writes its fields, and it isn't copied while it is open: it is one owner of memory. A session is used
-   by one call at a time; it belongs to no thread. */
+   program part reads or writes its fields, and it isn't copied while it is open: it is one owner of memory, and two copies would
+   free that twice. A session is used by one call at a time; it belongs to no thread. */
 typedef struct {
     void *at;
     bool is_open;
@@ -68,19 +70,21 @@ uint8_t photofleet_open(photofleet_session *session, const uint8_t *lines, size_
 
 /* Gives a line to a session, without an LF at its end, and puts the text of its report into 'out'. The line is judged and run
    as one that stands behind all lines before it, so a fault names its number among these. An LF within it ends a line: then
-   several are given at once, which are all taken or none. A line costs what its command costs. Several at once cost as much as
-   all lines, and so does the line behind one that had no room or no memory.
+   several are given at once, which are all taken or none. A line costs what its command costs. A change that is given with
+   fewer than 128 bytes of room copies the fleet besides. Several lines at once cost as much as all lines, and so does the line
+   after a change for which memory was refused.
 
    DONE: the first '*written' bytes of 'out' are what the run prints behind what it printed before; none of a declaration, of an
    empty line or of a remark.
    BAD_SESSION: it is closed. '*written' is 0, and 'out' is as it was.
    BAD_SCRIPT: the line in 'out' tells why the session's lines and this one are no script, as above.
-   NO_MEMORY: the line in 'out' tells that, as above.
+   NO_MEMORY: the line in 'out' tells that, as above. The session's lines and this one are within a script's limit, and UTF-8.
    TOO_SMALL: '*written' tells how many bytes the text takes, and 'out' is as it was.
    After any status but DONE the session is as it was: the line can be given again, or another one. */
 uint8_t photofleet_give(photofleet_session *session, const uint8_t *line, size_t line_length, uint8_t *out, size_t out_length, size_t *written);
 
-/* The same of a line that is not kept, such as 'list cam': what would be printed of it now. The session is as it was. */
+/* The same of a line that is not kept, such as 'list cam': what would be printed of it now. The session is as it was. A change
+   that is asked copies the fleet. */
 uint8_t photofleet_ask(photofleet_session *session, const uint8_t *line, size_t line_length, uint8_t *out, size_t out_length, size_t *written);
 
 /* Closes a session, and gives back its memory. DONE: it was open. BAD_SESSION: it is closed already. A closed one can be opened

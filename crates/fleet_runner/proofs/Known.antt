@@ -1,10 +1,9 @@
--- Bytes that a writer holds or a reader has left.
-use Rattle.std.proofs.Common.{◌≡◌, ℕ, ◌+◌, ◌-◌, ◌≤◌, List, ◌++◌, length, take, drop, ap, ◌∙◌, append_assoc, length-append, arith}
+-- Bytes that a writer holds.
+use Rattle.std.proofs.Common.{◌≡◌, ℕ, ◌-◌, List, ◌++◌, length, take, drop, ap, ◌∙◌, append_assoc, arith}
 use Rattle.std.specs.Prelude.{Option}
-use Rattle.std.specs.Io.KnownBytes.{Appends, Consumes}
-use Rattle.std.proofs.KnownBytes.{Appends-trans, Consumes-trans}
+use Rattle.std.specs.Io.KnownBytes.{Appends}
+use Rattle.std.proofs.KnownBytes.{Appends-trans}
 use Rattle.std.proofs.lemmas.List.{take-append-drop, take_all, length-drop}
-use Rattle.fleet_runner.specs.Outputs.{TakesAtMost}
 
 -- a front of the text has been written, and `rest` is left
 pub record IsWrittenTo (before here : Option (List ℕ)) (rest text : List ℕ) : Type 0 where
@@ -20,11 +19,3 @@ written_more before here after rest text n so_far more =
       whole = append_assoc so_far.front (take n rest) _ ∙ ap (λ l. so_far.front ++ l) (ap (λ l. take n rest ++ l) left ∙ take-append-drop n rest) ∙ so_far.whole;
       written = Appends-trans before here after so_far.front (take n rest) so_far.written more;
     }
-
--- what was taken so far, and one more piece
-pub taken_more : (old here new : Option (List ℕ)) (bytes piece : List ℕ) (most : ℕ) → Consumes old here bytes → Consumes here new piece → length bytes + length piece ≤ most → TakesAtMost old new most
-taken_more old here new bytes piece most read more few = record {
-  taken = bytes ++ piece;
-  front = Consumes-trans old here new bytes piece read more;
-  few = let long = length-append bytes piece in omega (arith, long);
-}

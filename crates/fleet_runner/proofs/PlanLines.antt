@@ -1,12 +1,13 @@
 -- Writes the lines of a plan.
-use Rattle.std.proofs.Common.{◌≡◌, ℕ, suc, ◌+◌, ◌-◌, ◌<◌, List, [], ◌++◌, sym, ap, ◌∙◌, subst, append_assoc, arith}
+use Rattle.std.proofs.Common.{◌≡◌, ℕ, suc, ◌+◌, ◌-◌, ◌<◌, ◌≤◌, List, [], ◌++◌, length, sym, ap, ◌∙◌, subst, append_assoc, arith}
 use Rattle.std.proofs.lemmas.List.{append-nil}
 use Rattle.std.specs.Prelude.{Option}
 use Rattle.std.specs.Io.KnownBytes.{Appends}
 use Rattle.std.proofs.KnownBytes.{Appends-trans}
 use Rattle.photo_batcher.specs.Plans.{Planned}
 use Rattle.fleet_runner.specs.Outputs.{AppendsFront}
-use Rattle.fleet_runner.specs.PlanTexts.{command_line, count_line, lines_from}
+use Rattle.fleet_runner.specs.OrderStreams.{AppendsLines}
+use Rattle.fleet_runner.specs.PlanTexts.{command_line, count_line, lines_from, plan_text}
 use Rattle.fleet_runner.proofs.Known.{IsWrittenTo}
 
 -- one piece of the rest has been written
@@ -52,3 +53,8 @@ pub last_cut : (before here after : Option (List ℕ)) (p : Planned) (place coun
 last_cut before here after p place count line text all is so_far part =
     piece_cut before here after (count_line p) [] text
     (subst (λ (l : List ℕ). IsWrittenTo before here l text) (last_line p place count all ∙ sym (append-nil (count_line p))) so_far) (subst (AppendsFront here after) is part)
+
+-- up to here exactly the lines of the first `place` commands have been written
+pub lines_appended : (before here : Option (List ℕ)) (p : Planned) (place : ℕ) → place ≤ length p.batches
+    → IsWrittenTo before here (lines_from p (place + 1) (length p.batches - place)) (plan_text p) → AppendsLines before here p
+lines_appended before here p place few so_far = record { count = place; few = few; front = so_far.front; whole = so_far.whole; written = so_far.written }

@@ -8,7 +8,7 @@ use Rattle.photo_script.specs.Reports.{Answer, Tells}
 use Rattle.fleet_model.specs.Runs.{run, reports_of}
 use Rattle.fleet_steps.specs.Outcomes.{AreRight}
 use Rattle.fleet_steps.specs.Laws.{AcceptedStaysSound}
-use Rattle.fleet_steps.specs.declared.fault.RunError.{RunError}
+use Rattle.run_error.specs.declared.error.RunError.{RunError}
 use Rattle.fleet_runner.specs.Outputs.{AppendsFirst, WritesFirst, IsOfWriting, IsOfPlainRun}
 use Rattle.fleet_model.proofs.Zipped.{zip_take}
 

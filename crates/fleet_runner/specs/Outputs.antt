@@ -1,14 +1,14 @@
--- What a stream takes from its source and writes to its writer.
-use Rattle.std.specs.Prelude.{◌≡◌, ◌≢◌, ◌⊎◌, ℕ, ◌≤◌, List, ◌++◌, length, take, Option, Ok}
+-- What a stream writes to its writer.
+use Rattle.std.specs.Prelude.{◌≡◌, ◌≢◌, ◌⊎◌, ℕ, List, ◌++◌, length, take, Option, Ok}
 use Rattle.std.specs.List.{AllZip}
-use Rattle.std.specs.Io.KnownBytes.{Appends, Consumes}
+use Rattle.std.specs.Io.KnownBytes.{Appends}
 use Rattle.fleet_model.specs.Contents.{Contents}
 use Rattle.script_reader.specs.Reading.{script_of}
 use Rattle.photo_script.specs.Reports.{Answer, Tells, texts_from}
 use Rattle.fleet_model.specs.Runs.{run, reports_of}
 use Rattle.script_reader.specs.declared.fault.ScriptFault.{ScriptFault}
-use Rattle.fleet_steps.specs.declared.fault.RunError.{RunError}
-use Rattle.fleet_steps.specs.declared.fault.RunError.TheVariants.{NoMemory, NoWorker, NotLawful, Script, Write}
+use Rattle.run_error.specs.declared.error.RunError.{RunError}
+use Rattle.run_error.specs.declared.error.RunError.TheVariants.{NoMemory, NoWorker, NotLawful, Script, Write}
 use Rattle.fleet_steps.specs.Outcomes.{AreRight}
 use Rattle.fleet_model.specs.Sound.{IsSoundThroughout}
 
@@ -17,12 +17,6 @@ pub record IsOutput (script : Contents) (output : List ℕ) : Type 0 where
   pub answers : List Answer
   pub right : AreRight script answers
   pub texts : output ≡ texts_from script 1 answers
-
--- at most that many bytes were taken, from the front of the reader's bytes
-pub record TakesAtMost (old new : Option (List ℕ)) (most : ℕ) : Type 0 where
-  pub taken : List ℕ
-  pub front : Consumes old new taken
-  pub few : length taken ≤ most
 
 -- exactly the whole texts of some first answers were appended, perhaps of none
 pub record AppendsFirst (old new : Option (List ℕ)) (script : Contents) (answers : List Answer) : Type 0 where

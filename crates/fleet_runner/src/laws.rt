@@ -4,7 +4,7 @@ ghost use Rattle.fleet_runner.specs.Laws.{OutputsAreOne};
 ghost use Rattle.fleet_runner.specs.Examples.{AreAsTold, printed};
 
 use crate::plain_stream;
-use fleet_steps::RunError;
+use run_error::RunError;
 use std::alloc::Global;
 
 /// The worked examples hold by the definitions alone.

@@ -1,7 +1,9 @@
 //! Writes the text of a plan.
-ghost use Rattle.std.specs.Prelude.{◌≡◌, ◌<◌, ◌≤◌, ◌++◌, length, string_bytes, codes, OnOk, OnErr, IfErr};
+ghost use Rattle.std.specs.Prelude.{◌≡◌, ◌<◌, ◌≤◌, ◌++◌, length, string_bytes, codes, OnOk, IfErr, Err};
 ghost use Rattle.std.specs.Fmt.{decimal};
 ghost use Rattle.std.specs.Io.KnownBytes.{Appends};
+ghost use Rattle.run_error.specs.declared.error.RunError.TheVariants.{NoMemory, Write};
+ghost use Rattle.fleet_runner.specs.OrderStreams.{AppendsLines};
 ghost use Rattle.fleet_runner.specs.Outputs.{AppendsFront, IsOfWriting};
 ghost use Rattle.fleet_runner.specs.PlanTexts.{after_text, command_line, plan_text};
 
@@ -16,10 +18,11 @@ use std::io::Write;
 /// command that it goes after; the last line has the number of batches.
 ///
 /// After want of memory the lines of some first commands are written, perhaps of none. An error or a 0 of the writer is
-/// `Write`. After either a front of the text is written.
+/// `Write`; then a front of the text is written.
 pub fn write_plan<W: Write>(alloc: Global, writer: &mut W, plan: &Plan) -> Result<(), RunError>
     ensures written { OnOk result (Appends (W.contents writer.old) (W.contents writer.new) (plan_text plan.now)) }
-    ensures front { OnErr result (AppendsFront (W.contents writer.old) (W.contents writer.new) (plan_text plan.now)) }
+    ensures first { result ≡ Err NoMemory → AppendsLines (W.contents writer.old) (W.contents writer.new) plan.now }
+    ensures front { result ≡ Err Write → AppendsFront (W.contents writer.old) (W.contents writer.new) (plan_text plan.now) }
     ensures err { IfErr result IsOfWriting }
 {
     write_lines(alloc, writer, plan)?;
@@ -31,7 +34,8 @@ pub fn write_plan<W: Write>(alloc: Global, writer: &mut W, plan: &Plan) -> Resul
 
 fn write_lines<W: Write>(alloc: Global, writer: &mut W, plan: &Plan) -> Result<(), RunError>
     ensures written { OnOk result (Appends (W.contents writer.old) (W.contents writer.new) (plan_text plan.now)) }
-    ensures front { OnErr result (AppendsFront (W.contents writer.old) (W.contents writer.new) (plan_text plan.now)) }
+    ensures first { result ≡ Err NoMemory → AppendsLines (W.contents writer.old) (W.contents writer.new) plan.now }
+    ensures front { result ≡ Err Write → AppendsFront (W.contents writer.old) (W.contents writer.new) (plan_text plan.now) }
     ensures err { IfErr result IsOfWriting }
 {
     let mut text = String::new(alloc);

@@ -4,7 +4,7 @@ ghost use Rattle.std.specs.List.{AllByRecursion};
 ghost use Rattle.fleet_model.specs.Limits.{max_commands};
 ghost use Rattle.std.specs.Io.KnownBytes.{Appends};
 ghost use Rattle.photo_script.specs.Reports.{answer_of, texts_from, IsAbout};
-ghost use Rattle.fleet_steps.specs.declared.fault.RunError.TheVariants.{NoMemory, Write};
+ghost use Rattle.run_error.specs.declared.error.RunError.TheVariants.{NoMemory, Write};
 ghost use Rattle.fleet_runner.specs.Outputs.{AppendsFirst, AppendsFront, IsOfWriting};
 
 use crate::RunError;

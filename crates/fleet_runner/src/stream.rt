@@ -1,12 +1,13 @@
 //! Streams from a reader's bytes to the bytes of the reports, on one thread or by workers.
 ghost use Rattle.std.specs.Prelude.{◌≡◌, ◌≢◌, ◌+◌, OnOk, IfOk, IfErr, IfSome, Ok, Err};
+ghost use Rattle.bounded_read.specs.Taking.{TakesAtMost};
 ghost use Rattle.script_reader.specs.Limits.{max_text_bytes};
 ghost use Rattle.script_reader.specs.Reading.{script_of};
 ghost use Rattle.script_reader.specs.declared.fault.ScriptFault.{ScriptFault};
 ghost use Rattle.script_reader.specs.declared.fault.ScriptFault.TheVariants as script;
 ghost use Rattle.fleet_steps.specs.Laws.{AcceptedStaysSound};
-ghost use Rattle.fleet_steps.specs.declared.fault.RunError.TheVariants.{NoMemory, NoWorker, Script, Write};
-ghost use Rattle.fleet_runner.specs.Outputs.{IsOfReading, IsOfPlainRun, IsOfWorkersRun, TakesAtMost, WritesOutput};
+ghost use Rattle.run_error.specs.declared.error.RunError.TheVariants.{NoMemory, NoWorker, Script, Write};
+ghost use Rattle.fleet_runner.specs.Outputs.{IsOfReading, IsOfPlainRun, IsOfWorkersRun, WritesOutput};
 ghost use Rattle.fleet_runner.specs.Outputs.{WritesFirst, WritesFront};
 
 use crate::{Gate, RunError, Workers, read_source, run_fleet, run_plain, write_reports};
@@ -41,8 +42,8 @@ pub fn plain_stream<R: Read, W: Write>(
     write_reports(alloc, writer, &script, outcome.reports.as_slice())
 }
 
-/// Reads a script, runs it by several workers, each in a thread of its own, and then writes its reports. The bytes written are
-/// those of [`plain_stream`].
+/// Reads a script, runs it by several workers, the first of them on the calling thread, and then writes its reports. The bytes
+/// written are those of [`plain_stream`].
 ///
 /// Nothing is written before the run has succeeded: a `Script` fault leaves the writer as it was, and so does `NoWorker`, where
 /// a thread couldn't be started. The fault is the first one of the bytes read, unless reading or memory failed. After
@@ -73,7 +74,10 @@ pub fn run_stream<R: Read, W: Write, G: Gate + 'static, T: Threads + Wait + Copy
 }
 
 // Reads a script, and states that every accepted script stays sound.
-fn script_read<R: Read>(alloc: Global, reader: &mut R) -> Result<photo_script::Script, RunError>
+pub(crate) fn script_read<R: Read>(
+    alloc: Global,
+    reader: &mut R,
+) -> Result<photo_script::Script, RunError>
     ensures read { IfOk result (λ script. IfSome (R.remaining reader.old) (λ input. script_of input ≡ Ok script)) }
     ensures sound { AcceptedStaysSound }
     ensures refused { (fault : ScriptFault) → result ≡ Err (Script fault) → fault ≢ script.Read → fault ≢ script.NoMemory

@@ -1,3 +1,4 @@
 pub mod Lines
 pub mod Kinds
 pub mod Answers
+pub mod Input

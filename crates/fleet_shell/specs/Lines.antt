@@ -1,7 +1,9 @@
 -- The lines that were taken: none, or the text of a script, which has an LF between two lines.
-use Rattle.std.specs.Prelude.{◌≡◌, ◌≢◌, ◌⊎◌, ◌-◌, ℕ, List, [], ◌∷◌, ◌++◌, length, Option, Some, None, slice_index, EachIndex}
+use Rattle.std.specs.Prelude.{◌≡◌, ◌≢◌, ◌⊎◌, ◌-◌, ◌<◌, ℕ, List, [], ◌∷◌, ◌++◌, length, Option, Some, None, slice_index, EachIndex}
 use Rattle.live_script.specs.Live.{IsTold}
 use Rattle.live_script.specs.Printed.{IsPrinted}
+use Rattle.live_script.specs.Refused.{IsWhy}
+use Rattle.live_script.specs.declared.refusal.Refusal.{Refusal}
 
 -- the text of the lines with one more behind them
 abbrev pub with_line : Option (List ℕ) → List ℕ → List ℕ
@@ -30,6 +32,7 @@ bytes_of (Some text) = text ++ 10 ∷ []
 
 -- the bytes of a file in which no LF ends the last line
 pub record IsOpen (bytes text : List ℕ) : Type 0 where
+  pub some : 0 < length bytes
   pub same : text ≡ bytes
   pub last : slice_index bytes (length bytes - 1) ≢ 10
 
@@ -37,3 +40,7 @@ pub record IsOpen (bytes text : List ℕ) : Type 0 where
 abbrev pub AreOf : List ℕ → Option (List ℕ) → Type 0
 AreOf bytes None = bytes ≡ []
 AreOf bytes (Some text) = (bytes ≡ bytes_of (Some text)) ⊎ IsOpen bytes text
+
+-- why the lines of a file with those bytes give no reports
+abbrev pub IsWhyOf : List ℕ → Refusal → Type 0
+IsWhyOf bytes why = (text : List ℕ) × AreOf bytes (Some text) × IsWhy text why

@@ -1,4 +1,7 @@
 //! The lines of an input. Of none more is kept than a script may have, however long it is.
+ghost use Rattle.std.specs.Prelude.{◌++◌, ℕ, List};
+ghost use Rattle.fleet_shell.specs.Input.{IsBegun, IsNext};
+
 use photo_script::MAX_TEXT_BYTES;
 use std::alloc::{AllocError, Global};
 use std::io::{self, Read};
@@ -107,7 +110,9 @@ impl<R: Read + Drop> Input<R> {
 
 impl Begun {
     // Appends a part of the line, if all of the line may be kept.
-    fn keep(&mut self, part: &[u8]) {
+    fn keep(&mut self, part: &[u8])
+        ensures { (read : List ℕ) → IsBegun read self.old → IsBegun (read ++ part.now) self.new }
+    {
         if part.len() > MAX_TEXT_BYTES.saturating_sub(self.line.len()) {
             self.is_short = false;
         }
@@ -117,7 +122,9 @@ impl Begun {
     }
 
     // The line, which is whole.
-    fn ended(self) -> Next {
+    fn ended(self) -> Next
+        ensures { (read : List ℕ) → IsBegun read self → IsNext read result }
+    {
         if !self.is_short {
             return Next::TooLong;
         }

@@ -3,7 +3,7 @@ ghost use Rattle.std.specs.Prelude.{◌≡◌, ◌≢◌, ◌≤◌, ◌<◌, �
 ghost use Rattle.std.specs.Io.KnownBytes.{Appends};
 ghost use Rattle.live_script.specs.Printed.{IsPrinted};
 ghost use Rattle.live_script.specs.Refused.{IsOfFault, IsWhy};
-ghost use Rattle.fleet_shell.specs.Lines.{AreOf, IsLast, Tells, bytes_of, text_of, with_line};
+ghost use Rattle.fleet_shell.specs.Lines.{AreOf, IsLast, IsWhyOf, Tells, bytes_of, text_of, with_line};
 
 use live_script::{LiveScript, Refusal, plain_text};
 use std::alloc::{AllocError, Global};
@@ -26,6 +26,7 @@ impl Lines {
     /// The lines of a file with these bytes, of which each command has run. An LF at the end begins no further line.
     pub fn of(alloc: Global, bytes: &[u8]) -> Result<Lines, Refusal>
         ensures lines { IfOk result (λ lines. AreOf bytes.now lines.live) }
+        ensures refused { IfErr result (IsWhyOf bytes.now) }
     {
         match bytes.split_last() {
             None => Ok(Lines::none()),

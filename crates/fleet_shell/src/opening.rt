@@ -1,7 +1,7 @@
 //! The lines of a file, before the talk begins.
 use crate::lines::Lines;
-use fleet_steps::RunError;
 use live_script::{Refusal, plain_text};
+use run_error::RunError;
 use script_programs::{Unread, read_file};
 use std::alloc::Global;
 use std::io::{self, Write};

@@ -1,10 +1,11 @@
 //! What the program does, from the words to the exit status.
+use crate::helps::OVERVIEW;
 use crate::input::Input;
 use crate::opening::{Closed, opened};
 use crate::talk::{Broken, talk};
 use crate::words::file_of;
-use fleet_steps::RunError;
 use photo_script::ScriptFault;
+use run_error::RunError;
 use script_programs::{BAD_SCRIPT, refused, status_of};
 use std::alloc::Global;
 use std::convert::AsStr;
@@ -25,7 +26,7 @@ pub fn serve<S: AsStr, F: Files, I: Read + Drop, W: Write, E: Write>(
 ) -> u8 {
     match file_of(alloc, words) {
         Ok(file) => talked(files, alloc, file, input, out, err),
-        Err(refusal) => refused(alloc, &refusal, out, err),
+        Err(refusal) => refused(alloc, &refusal, OVERVIEW, out, err),
     }
 }
 

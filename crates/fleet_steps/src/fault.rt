@@ -1,43 +1,25 @@
-// Why a run gave no outcome.
+// Why a replay gave no outcome.
 ghost use Rattle.std.specs.Prelude.{◌≡◌};
-ghost use Rattle.fleet_steps.specs.declared.fault.RunError.TheVariants.{NoMemory};
+ghost use Rattle.fleet_steps.specs.declared.fault.ReplayError.TheVariants.{NoMemory};
 
-use photo_script::ScriptFault;
-use std::alloc::{AllocError, AllocFailed};
+use std::alloc::AllocError;
 use thiserror::Error;
 
-/// Why a run gave no outcome, or failed to write all its reports.
+/// Why a run in a given order gave no outcome.
 #[derive(Clone, Copy, Debug, PartialEq, Eq, Drop, Error)]
-pub enum RunError {
+pub enum ReplayError {
     /// Memory was refused.
-    #[error("E1 NoMemory")]
+    #[error("memory was refused")]
     NoMemory,
-    /// No thread could be started for a worker.
-    #[error("E2 NoWorker")]
-    NoWorker,
-    /// The order that was asked for isn't lawful.
-    #[error("E3 NotLawful")]
+    /// The order isn't lawful.
+    #[error("the order isn't lawful")]
     NotLawful,
-    /// The source isn't a script, or couldn't be read.
-    #[error("{0}")]
-    Script(ScriptFault),
-    /// The writer failed.
-    #[error("E5 Write")]
-    Write,
 }
 
-impl From<AllocError> for RunError {
+impl From<AllocError> for ReplayError {
     ghost from_gives = { λ _ e. e ≡ NoMemory };
 
-    fn from(_: AllocError) -> RunError {
-        RunError::NoMemory
-    }
-}
-
-impl<T: Drop> From<AllocFailed<T>> for RunError {
-    ghost from_gives = { λ _ e. e ≡ NoMemory };
-
-    fn from(_: AllocFailed<T>) -> RunError {
-        RunError::NoMemory
+    fn from(_: AllocError) -> ReplayError {
+        ReplayError::NoMemory
     }
 }

@@ -14,7 +14,7 @@ mod replaying;
 mod step;
 
 pub use command::{run_between, run_command, run_pull};
-pub use fault::RunError;
+pub use fault::ReplayError;
 pub use issue_log::IssueLog;
 pub use logging::made_on;
 pub use ordered::{no_reports, opening_device, opening_devices};

@@ -1,25 +1,23 @@
 // Runs a script in the order of its commands' numbers.
-ghost use Rattle.std.specs.Prelude.{◌≡◌, ◌≤◌, IfOk, IfErr};
+ghost use Rattle.std.specs.Prelude.{◌≡◌, ◌≤◌, IfOk};
 ghost use Rattle.photo_device.specs.Held.{entries_of};
 ghost use Rattle.fleet_model.specs.Limits.{max_commands};
 ghost use Rattle.fleet_model.specs.Runs.{numbers_to, run};
 ghost use Rattle.fleet_steps.specs.Outcomes.{IsOutcome};
-ghost use Rattle.fleet_steps.specs.declared.fault.RunError.TheVariants.{NoMemory};
 
+use crate::Outcome;
 use crate::ordered::run_ordered;
-use crate::{Outcome, RunError};
 use photo_script::Script;
 use std::alloc::{AllocError, Global};
 
 /// Runs a script's commands in the order of their numbers; the log has the versions in the order in which they were made. Its
 /// only error is want of memory.
-pub fn run_plain(alloc: Global, script: &Script) -> Result<Outcome, RunError>
+pub fn run_plain(alloc: Global, script: &Script) -> Result<Outcome, AllocError>
     ensures ok { IfOk result (IsOutcome script.now) }
     ensures log { IfOk result (λ outcome. entries_of outcome.log ≡ (run script.now).log) }
-    ensures err { IfErr result (λ e. e ≡ NoMemory) }
 {
     let numbers = numbers_to(alloc, script.commands())?;
-    Ok(run_ordered(alloc, script, numbers.as_slice())?)
+    run_ordered(alloc, script, numbers.as_slice())
 }
 
 // The numbers from 1 to `last`.

@@ -4,10 +4,10 @@ ghost use Rattle.photo_device.specs.Held.{entries_of};
 ghost use Rattle.fleet_model.specs.Runs.{run_in_order};
 ghost use Rattle.photo_batcher.specs.Orders.{IsLawful};
 ghost use Rattle.fleet_steps.specs.Outcomes.{IsOutcome};
-ghost use Rattle.fleet_steps.specs.declared.fault.RunError.TheVariants.{NoMemory, NotLawful};
+ghost use Rattle.fleet_steps.specs.declared.fault.ReplayError.TheVariants.{NoMemory, NotLawful};
 
 use crate::ordered::run_ordered;
-use crate::{Outcome, RunError};
+use crate::{Outcome, ReplayError};
 use photo_batcher::lawful;
 use photo_script::Script;
 use std::alloc::Global;
@@ -17,14 +17,14 @@ use std::alloc::Global;
 /// were made.
 ///
 /// `NotLawful` comes only where the order isn't lawful; then nothing has run. The other error is want of memory.
-pub fn replay(alloc: Global, script: &Script, order: &[u32]) -> Result<Outcome, RunError>
+pub fn replay(alloc: Global, script: &Script, order: &[u32]) -> Result<Outcome, ReplayError>
     ensures ok { IfOk result (IsOutcome script.now) }
     ensures log { IfOk result (λ outcome. entries_of outcome.log ≡ (run_in_order script.now order.now).log) }
     ensures lawful { OnOk result (IsLawful script.now order.now) }
     ensures err { IfErr result (λ e. (e ≡ NoMemory) ⊎ ((e ≡ NotLawful) × (IsLawful script.now order.now → ⊥))) }
 {
     if !lawful(alloc, script, order)? {
-        return Err(RunError::NotLawful);
+        return Err(ReplayError::NotLawful);
     }
     Ok(run_ordered(alloc, script, order)?)
 }

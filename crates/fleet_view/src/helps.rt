@@ -21,7 +21,7 @@ pub const WHERE: &str =
   V      it is in the device's store
   [V]    it waits in the device's out until another device takes it
   ~V     the device knows of it and doesn't hold it
-  -V     the device never heard of it
+  -V     the device doesn't know of it
 
 and V* or [V]* of a version that the device holds and that is superseded. Two versions that are
 current are in conflict, and have ! between them.
@@ -43,7 +43,7 @@ with the command's number and the device: it is made, in the store or in the out
 the source's store, or handed over by its out; told of or learned of without its contents; given up,
 with the version that supersedes it; moved between store and out by another filter; or forgotten.
 
-Below stands for each device that lacks a current version why: it never heard of it, or its filter
+Below stands for each device that lacks a current version why: it doesn't know of it, or its filter
 doesn't select it. What the device held last is told too, where it holds nothing of the picture now.
 
 Exit status: 0 done, 2 refused words, 3 script fault, 4 no memory, 5 output not written.";
@@ -54,8 +54,8 @@ pub const PAGE: &str =
 with its filter, its store, its out and what it knows. Rows that came with the command are green, those
 that left with it red. A click on a picture's number follows it through the run.
 
-Left and right go one command back and on, Home and End to the first and the last; / asks for a picture,
-n and p go to the next and the previous command that did something to it, Esc stops following. The page's
+Left and right go one command back and on, Home before the first and End to the last; / asks for a
+picture, n and p go to the next and the previous command that did something to it, Esc stops following. The page's
 address keeps the command and the picture.
 
 Exit status: 0 done, 2 refused words, 3 script fault, 4 no memory, 5 output not written.";

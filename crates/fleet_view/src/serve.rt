@@ -1,9 +1,10 @@
 //! What the program does, from the words to the exit status.
+use crate::helps::OVERVIEW;
 use crate::orders::push_order;
 use crate::remarks::push_remarks;
 use crate::words::{Request, View, request_of};
-use fleet_steps::RunError;
 use photo_script::{Script, ScriptFault, read_script};
+use run_error::RunError;
 use script_faults::fault_view;
 use script_pages::{push_chart, push_page};
 use script_programs::{BAD_SCRIPT, DONE, Unread, read_file, read_input, refused, status_of};
@@ -38,7 +39,7 @@ pub fn serve<S: AsStr, R: Files, I: Read, W: Write, E: Write>(
             };
             answer(alloc, &request, &source, out, err)
         }
-        Err(refusal) => refused(alloc, &refusal, out, err),
+        Err(refusal) => refused(alloc, &refusal, OVERVIEW, out, err),
     }
 }
 

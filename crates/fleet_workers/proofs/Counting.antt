@@ -17,8 +17,8 @@ use Rattle.photo_script.specs.Reports.{Plain, Answer, Tells, answer_of}
 use Rattle.fleet_model.specs.Runs.{Effect, effect, making, telling}
 use Rattle.fleet_model.specs.Tallies.{kind_of}
 use Rattle.photo_script.specs.Tallies.{moved_by}
-use Rattle.fleet_model.specs.Tallies as kind
-use Rattle.work_ledger.specs.declared.kind.Kind.{Kind}
+use Rattle.fleet_model.specs.declared.command.CommandKind.{CommandKind}
+use Rattle.fleet_model.specs.declared.command.CommandKind.TheVariants as kind
 use Rattle.work_ledger.specs.declared.kind.Kind.TheVariants.{Change, Pull, Report}
 use Rattle.work_ledger.specs.Stakes.{Stake, stake, tally, totals, none_left, plus, less, both, given, Within}
 use Rattle.work_ledger.specs.Counting.{CanCount, counted}
@@ -51,7 +51,7 @@ pub one_is : (script : Contents) (n : ℕ) (c : Command) → command_of script n
 one_is script n c is = rw is refl
 
 -- the answer counts as the command's kind and reports few versions moved
-pub record CountsAs (k : kind.Kind) (a : Answer) : Type 0 where
+pub record CountsAs (k : CommandKind) (a : Answer) : Type 0 where
   pub can : (left : Tally) → CanCount (kind_told a) (plus (one_of k) left)
   pub by : (parts : ℕ) (left : Tally) (done : Totals) → counted (kind_told a) (stake parts (plus (one_of k) left) done) ≡ stake parts left (both done (worked (one_of k) (moved_by a)))
 
@@ -80,7 +80,7 @@ as_pull a counts is few =
       by = λ parts left done. stake_same parts _ _ _ _ _ _ _ _ _ _ _ _ _ _ (omega arith) (omega arith) (omega arith) (omega arith) (omega arith) (omega arith) (omega arith);
     })
 
-either : (k : kind.Kind) (a : Answer) (b : Bool) (x y : Effect) → (Tells a x.report → CountsAs k a) → (Tells a y.report → CountsAs k a) → Tells a (cond b x y).report → CountsAs k a
+either : (k : CommandKind) (a : Answer) (b : Bool) (x y : Effect) → (Tells a x.report → CountsAs k a) → (Tells a y.report → CountsAs k a) → Tells a (cond b x y).report → CountsAs k a
 either k a true x y f g told = f told
 either k a false x y f g told = g told
 

@@ -15,7 +15,8 @@ use Rattle.photo_script.specs.Reports.{Answer, Tells, answer_of}
 use Rattle.fleet_model.specs.Runs.{numbers_to}
 use Rattle.fleet_model.specs.Tallies.{tally_of, kind_of, is_change, is_pull, is_question, moved_by_report}
 use Rattle.photo_script.specs.Tallies.{moved_by}
-use Rattle.fleet_model.specs.Tallies as kind
+use Rattle.fleet_model.specs.declared.command.CommandKind.{CommandKind}
+use Rattle.fleet_model.specs.declared.command.CommandKind.TheVariants as kind
 use Rattle.photo_batcher.specs.Related.{IsNumber}
 use Rattle.photo_batcher.specs.Orders.{times, IsLawful}
 use Rattle.photo_batcher.proofs.Counting.{split, times_cons, times_append}
@@ -114,17 +115,17 @@ lawful_tally script order lawful =
     (each_sum (λ k. (one_at script k).pulls) n order each ∙ commands_sum (λ t. t.pulls) (λ c. is_pull (kind_of c)) script pulls n (omega arith) ∙ ap (count_by (λ c. is_pull (kind_of c))) whole)
     (each_sum (λ k. (one_at script k).reports) n order each ∙ commands_sum (λ t. t.reports) (λ c. is_question (kind_of c)) script questions n (omega arith) ∙ ap (count_by (λ c. is_question (kind_of c))) whole)
   where
-    changes_in : (k : kind.Kind) → (one_of k).changes ≡ cond (is_change k) 1 0
+    changes_in : (k : CommandKind) → (one_of k).changes ≡ cond (is_change k) 1 0
     changes_in kind.Change = refl
     changes_in kind.Pull = refl
     changes_in kind.Question = refl
 
-    pulls_in : (k : kind.Kind) → (one_of k).pulls ≡ cond (is_pull k) 1 0
+    pulls_in : (k : CommandKind) → (one_of k).pulls ≡ cond (is_pull k) 1 0
     pulls_in kind.Change = refl
     pulls_in kind.Pull = refl
     pulls_in kind.Question = refl
 
-    questions_in : (k : kind.Kind) → (one_of k).reports ≡ cond (is_question k) 1 0
+    questions_in : (k : CommandKind) → (one_of k).reports ≡ cond (is_question k) 1 0
     questions_in kind.Change = refl
     questions_in kind.Pull = refl
     questions_in kind.Question = refl

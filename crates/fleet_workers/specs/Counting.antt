@@ -9,14 +9,15 @@ use Rattle.fleet_model.specs.Answers.{Made, NotHeld, NotNarrower, Narrowed, Refi
 use Rattle.photo_script.specs.Reports.{Plain, Answer, KnowledgeOf, answer_of}
 use Rattle.fleet_model.specs.Tallies.{kind_of}
 use Rattle.photo_script.specs.Tallies.{moved_by}
-use Rattle.fleet_model.specs.Tallies as kind
+use Rattle.fleet_model.specs.declared.command.CommandKind.{CommandKind}
+use Rattle.fleet_model.specs.declared.command.CommandKind.TheVariants as kind
 use Rattle.work_ledger.specs.declared.kind.Kind.{Kind}
 use Rattle.work_ledger.specs.declared.kind.Kind.TheVariants.{Change, Pull, Report}
 use Rattle.work_ledger.specs.Stakes.{tally, totals, none_left}
 use Rattle.fleet_workers.specs.declared.work.Done.{Done}
 
 -- the tally of one command of that kind
-abbrev pub one_of : kind.Kind → Tally
+abbrev pub one_of : CommandKind → Tally
 one_of kind.Change = tally 1 0 0
 one_of kind.Pull = tally 0 1 0
 one_of kind.Question = tally 0 0 1

@@ -8,11 +8,12 @@ ghost use Rattle.work_ledger.specs.Stakes.{Within};
 ghost use Rattle.fleet_model.specs.Contents.{IsScript};
 ghost use Rattle.fleet_model.specs.Limits.{max_commands};
 ghost use Rattle.photo_batcher.specs.Related.{IsNumber};
-ghost use Rattle.fleet_steps.specs.declared.fault.RunError.TheVariants.{NoMemory, NoWorker};
+ghost use Rattle.fleet_workers.specs.declared.fault.WorkersError.TheVariants.{NoMemory, NoWorker};
 ghost use Rattle.fleet_workers.specs.Batch.{AreApart, IsOfCommand, with_other, some_second, put_slots, all_slots, all_reports, all_logged};
 ghost use Rattle.fleet_workers.specs.Counting.{tally_at};
 ghost use Rattle.fleet_workers.specs.Progress.{HasRun};
 
+use crate::WorkersError;
 use crate::crew::run_crew;
 use crate::deal::deal;
 use crate::gate::Gate;
@@ -20,7 +21,6 @@ use crate::parcel::Parcel;
 use crate::shared::Shared;
 use crate::slots::Slots;
 use crate::work::Done;
-use fleet_steps::RunError;
 use photo_batcher::places_of;
 use photo_device::SharedHeld;
 use photo_script::{Report, Script};
@@ -42,7 +42,7 @@ pub(crate) fn run_batch<
     share: &mut Share<B>,
     slots: Slots,
     members: &[u32],
-) -> Result<Slots, RunError>
+) -> Result<Slots, WorkersError>
     requires script { IsScript (arc_value shared.now.script) }
     requires numbers { AllByRecursion (IsNumber (arc_value shared.now.script)) members.now }
     requires apart { AreApart (arc_value shared.now.script) members.now }

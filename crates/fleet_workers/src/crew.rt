@@ -2,16 +2,16 @@
 ghost use Rattle.std.specs.Prelude.{◌≡◌, ◌⊎◌, ◌+◌, ◌-◌, ◌++◌, ◌≤◌, IfOk, IfErr, OnOk, vec_len};
 ghost use Rattle.std.specs.Arc.{arc_value};
 ghost use Rattle.work_ledger.specs.Stakes.{stake, less, both, plus, given, IsCountable};
-ghost use Rattle.fleet_steps.specs.declared.fault.RunError.TheVariants.{NoMemory, NoWorker};
+ghost use Rattle.fleet_workers.specs.declared.fault.WorkersError.TheVariants.{NoMemory, NoWorker};
 ghost use Rattle.fleet_workers.specs.Counting.{tally_at};
 ghost use Rattle.fleet_workers.specs.Jobs.{AreReadyJobs, MayStart, HasWorked, jobs_of, numbers_of, share_for};
 
+use crate::WorkersError;
 use crate::gate::Gate;
 use crate::shared::Shared;
 use crate::tally::tally;
 use crate::work::{Done, Finished, Job};
 use crate::worker::run_jobs;
-use fleet_steps::RunError;
 use photo_script::Script;
 use std::alloc::{AllocError, Global};
 use std::snapshot::Snapshot;
@@ -38,7 +38,7 @@ struct Running<B: Books> {
 }
 
 impl<B: Books> Running<B> {
-    fn join<R: Threads>(self, rt: &R) -> Result<Finished<B>, RunError>
+    fn join<R: Threads>(self, rt: &R) -> Result<Finished<B>, WorkersError>
         ensures ok { let script = self.handle.promise.script.value in let jobs = self.handle.promise.jobs.value.items in
             IfOk result (λ f. HasWorked script jobs f.done.items (share_for script jobs) f.share) }
         ensures err { IfErr result (λ e. e ≡ NoMemory) }
@@ -60,7 +60,7 @@ pub(crate) fn run_crew<
     shared: &Shared<B, G>,
     share: &mut Share<B>,
     groups: Vec<Vec<Job>>,
-) -> Result<Vec<Done>, RunError>
+) -> Result<Vec<Done>, WorkersError>
     requires start { MayStart (arc_value shared.now.script) (jobs_of groups.items) share.old }
     requires parts { vec_len groups + 1 ≤ share.old.parts }
     ensures ok { IfOk result (λ done. HasWorked (arc_value shared.now.script) (jobs_of groups.items) done.items share.old share.new) }
@@ -94,7 +94,7 @@ fn start<
     shared: &Shared<B, G>,
     share: &mut Share<B>,
     jobs: Vec<Job>,
-) -> Result<Running<B>, RunError>
+) -> Result<Running<B>, WorkersError>
     requires start { MayStart (arc_value shared.now.script) jobs.items share.old }
     requires parts { 2 ≤ share.old.parts }
     ensures ok { IfOk result
@@ -119,7 +119,7 @@ fn spawn<
     shared: Shared<B, G>,
     share: Share<B>,
     jobs: Vec<Job>,
-) -> Result<Running<B>, RunError>
+) -> Result<Running<B>, WorkersError>
     requires ready { AreReadyJobs (arc_value shared.script) jobs.items }
     requires share { share ≡ share_for (arc_value shared.script) jobs.items }
     ensures ok { IfOk result
@@ -157,7 +157,7 @@ fn spawn<
         Ok(handle) => Ok(Running { handle }),
         Err(refused) => {
             drop(refused);
-            Err(RunError::NoWorker)
+            Err(WorkersError::NoWorker)
         }
     }
 }
@@ -185,7 +185,7 @@ fn gather<B: Books>(
     share: &mut Share<B>,
     done: Vec<Done>,
     finished: Finished<B>,
-) -> Result<Vec<Done>, RunError>
+) -> Result<Vec<Done>, WorkersError>
     requires { IsCountable (plus (given share.old.left share.old.done) (given finished.share.left finished.share.done)) }
     ensures done { IfOk result (λ all. all.items ≡ done.items ++ finished.done.items) }
     ensures share { share.new ≡ stake (share.old.parts + finished.share.parts) (plus share.old.left finished.share.left)

@@ -8,16 +8,17 @@ ghost use Rattle.photo_batcher.specs.Plans.{IsPlan};
 ghost use Rattle.work_ledger.specs.Ledgers.{all_parts};
 ghost use Rattle.work_ledger.specs.Stakes.{Stake, stake, nothing_done, IsCountable};
 ghost use Rattle.fleet_steps.specs.Outcomes.{IsOutcome};
-ghost use Rattle.fleet_steps.specs.declared.fault.RunError.TheVariants.{NoMemory, NoWorker};
+ghost use Rattle.fleet_workers.specs.declared.fault.WorkersError.TheVariants.{NoMemory, NoWorker};
 ghost use Rattle.fleet_workers.specs.Progress.{HasRun, HasEnded};
 
+use crate::WorkersError;
 use crate::batch::run_batch;
 use crate::gate::Gate;
 use crate::number::Workers;
 use crate::parcel::Parcel;
 use crate::shared::Shared;
 use crate::slots::Slots;
-use fleet_steps::{IssueLog, Outcome, RunError, no_reports, opening_devices};
+use fleet_steps::{IssueLog, Outcome, no_reports, opening_devices};
 use photo_batcher::{Plan, plan};
 use photo_device::Device;
 use photo_script::{Script, Tally, Totals};
@@ -36,7 +37,7 @@ use work_ledger::{Blanks, Books, Share, open};
 /// next batch begins.
 ///
 /// The outcome is that of the run command by command, except for the order of the log. Its totals are those that the ledger
-/// counted. Where memory was refused (E1) or a thread couldn't be started (E2), all workers that were started have been joined,
+/// counted. Where memory was refused or a thread couldn't be started, all workers that were started have been joined,
 /// and there is no outcome.
 pub fn run_fleet<G: Gate + 'static, R: Threads + Wait + Copy + Send + 'static>(
     rt: R,
@@ -44,7 +45,7 @@ pub fn run_fleet<G: Gate + 'static, R: Threads + Wait + Copy + Send + 'static>(
     script: &Arc<Script>,
     workers: Workers,
     gate: Arc<G>,
-) -> Result<Outcome, RunError>
+) -> Result<Outcome, WorkersError>
     ensures ok { IfOk result (IsOutcome (arc_value script.now)) }
     ensures err { IfErr result (λ e. (e ≡ NoMemory) ⊎ (e ≡ NoWorker)) }
 {
@@ -84,7 +85,7 @@ fn run_counted<
     script: &Arc<Script>,
     gate: Arc<G>,
     workers: Workers,
-) -> Result<(Slots, Totals), RunError>
+) -> Result<(Slots, Totals), WorkersError>
     requires names { blanks ≡ B.names }
     requires tally { tally_of (arc_value script.now) ≡ B.tally }
     ensures ok { IfOk result (λ r. (share : Stake) × HasEnded (arc_value script.now) r.0 share × (r.1 ≡ share.done)) }
@@ -124,7 +125,7 @@ fn run_planned<
     shared: &Shared<B, G>,
     share: &mut Share<B>,
     workers: Workers,
-) -> Result<Slots, RunError>
+) -> Result<Slots, WorkersError>
     requires { share.old ≡ stake all_parts (tally_of (arc_value shared.now.script)) nothing_done }
     ensures ok { IfOk result (λ slots. HasEnded (arc_value shared.now.script) slots share.new) }
     ensures err { IfErr result (λ e. (e ≡ NoMemory) ⊎ (e ≡ NoWorker)) }
@@ -146,7 +147,7 @@ fn run_batches<
     share: &mut Share<B>,
     plan: &Plan,
     slots: Slots,
-) -> Result<Slots, RunError>
+) -> Result<Slots, WorkersError>
     requires script { IsScript (arc_value shared.now.script) }
     requires plan { IsPlan (arc_value shared.now.script) plan.now }
     requires start { HasRun (arc_value shared.now.script) [] slots share.old }

@@ -1,9 +1,11 @@
-//! Runs scripts by several workers, each in a thread of its own. Its invariant: **no two workers have one device** at a time.
+//! Runs scripts by several workers: the first on the calling thread, each other one on a thread of its own. Its invariant: **no
+//! two workers have one device** at a time.
 #![tactic(auto)]
 
 mod batch;
 mod crew;
 mod deal;
+mod fault;
 mod fleet;
 mod gate;
 mod number;
@@ -15,6 +17,7 @@ mod tally;
 mod work;
 mod worker;
 
+pub use fault::WorkersError;
 pub use fleet::run_fleet;
 pub use gate::{Gate, OpenGate};
 pub use number::Workers;

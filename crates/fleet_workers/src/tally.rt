@@ -5,7 +5,7 @@ ghost use Rattle.fleet_workers.specs.Counting.{one_of, tally_at};
 ghost use Rattle.fleet_workers.specs.Jobs.{AreReadyJobs, numbers_of};
 
 use crate::work::Job;
-use photo_script::{Command, Script, Tally};
+use photo_script::{Command, CommandKind, Script, Tally, kind_of};
 
 pub(crate) fn tally(script: &Script, jobs: &Vec<Job>) -> Tally
     requires { AreReadyJobs script.now jobs.now.items }
@@ -30,18 +30,10 @@ fn one_of(command: &Command) -> Tally
     ensures kind { result ≡ one_of (kind_of command.now) }
     ensures one { (result.changes ≤ 1) × (result.pulls ≤ 1) × (result.reports ≤ 1) }
 {
-    let (changes, pulls, reports) = match command {
-        Command::New { .. }
-        | Command::Edit { .. }
-        | Command::Remove { .. }
-        | Command::Narrow { .. }
-        | Command::Refilter { .. } => (1, 0, 0),
-        Command::Pull { .. } => (0, 1, 0),
-        Command::Preview { .. }
-        | Command::List { .. }
-        | Command::Conflicts { .. }
-        | Command::Knowledge { .. }
-        | Command::Knows { .. } => (0, 0, 1),
+    let (changes, pulls, reports) = match kind_of(command) {
+        CommandKind::Change => (1, 0, 0),
+        CommandKind::Pull => (0, 1, 0),
+        CommandKind::Question => (0, 0, 1),
     };
     Tally {
         changes,

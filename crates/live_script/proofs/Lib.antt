@@ -2,3 +2,4 @@ mod Behind
 mod Longer
 mod Played
 mod Texts
+pub mod Readable

@@ -3,7 +3,7 @@ ghost use Rattle.std.specs.Prelude.{◌≡◌, ◌<◌, ◌≤◌, ◌==◌, len
 ghost use Rattle.std.specs.Bool.{OnFalse, OnTrue};
 ghost use Rattle.std.specs.List.{list_any};
 ghost use Rattle.live_script.specs.Live.{IsLive, IsTold, with_line};
-ghost use Rattle.live_script.specs.Refused.{IsOfFault};
+ghost use Rattle.live_script.specs.Refused.{IsWhy};
 
 use crate::Refusal;
 use crate::live::Told;
@@ -13,8 +13,7 @@ use live_fleet::Fleet;
 use photo_script::GrowingScript;
 use std::alloc::Global;
 
-/// Gives a line, if what is printed of it has at most `most` bytes, and tells that. Otherwise the lines are as they were. `source`
-/// has room for the line and an LF.
+/// Gives a line, if what is printed of it has at most `most` bytes, and tells that. Otherwise the lines are as they were.
 pub fn given_line(
     source: &mut Vec<u8>,
     script: &mut GrowingScript,
@@ -31,30 +30,33 @@ pub fn given_line(
     ensures fits { IfOk result (λ told. OnTrue told.is_taken (length told.text.items ≤ most)) }
     ensures long { IfOk result (λ told. OnFalse told.is_taken (most < length told.text.items)) }
     ensures left { IfOk result (λ told. OnFalse told.is_taken (source.new.items ≡ source.old.items)) }
-    ensures refused { IfErr result (IsOfFault (with_line source.old.items line.now)) }
+    ensures refused { IfErr result (IsWhy (with_line source.old.items line.now)) }
     ensures kept { OnErr result (source.new.items ≡ source.old.items) }
 {
     // The law that a script's run stays sound. It does nothing.
     accepted_stays_sound();
-    if source.reserve(line.len() + 1).is_err() {
-        return Err(Refusal::NoMemory);
-    }
     match script.push(line) {
-        Ok(said) => match run_line(alloc, script.script(), fleet, said, most) {
-            Ok(told) => {
-                if !told.is_taken {
-                    script.take_back();
-                    return Ok(told);
-                }
-                source.push_reserved(b'\n');
-                let _has_room = source.extend_from_slice(line);
-                Ok(told)
-            }
-            Err(_) => {
+        Ok(said) => {
+            if source.reserve(line.len() + 1).is_err() {
                 script.take_back();
-                Err(Refusal::NoMemory)
+                return Err(Refusal::NoMemory);
             }
-        },
+            match run_line(alloc, script.script(), fleet, said, most) {
+                Ok(told) => {
+                    if !told.is_taken {
+                        script.take_back();
+                        return Ok(told);
+                    }
+                    source.push_reserved(b'\n');
+                    let _has_room = source.extend_from_slice(line);
+                    Ok(told)
+                }
+                Err(_) => {
+                    script.take_back();
+                    Err(Refusal::NoMemory)
+                }
+            }
+        }
         Err(fault) => Err(Refusal::Script(fault)),
     }
 }
@@ -71,7 +73,7 @@ pub fn asked_line(
     requires live { IsLive source.now script.old fleet.old }
     ensures live { IsLive source.now script.new fleet.new }
     ensures told { IfOk result (λ text. IsTold source.now (with_line source.now line.now) text.items) }
-    ensures refused { IfErr result (IsOfFault (with_line source.now line.now)) }
+    ensures refused { IfErr result (IsWhy (with_line source.now line.now)) }
 {
     // The law that a script's run stays sound. It does nothing.
     accepted_stays_sound();

@@ -32,7 +32,7 @@ pub struct Told {
 pub struct LiveScript {
     script: GrowingScript,
     source: Vec<u8>,
-    // None where it is to be made anew: behind a declaration, or where a change had no room or no memory
+    // None where it is to be made anew: after a declaration, or after a change for which memory was refused
     fleet: Option<Fleet>,
     alloc: Global,
 }
@@ -76,8 +76,10 @@ impl LiveScript {
     /// Gives a line, and tells what is printed of it. Where that has over `most` bytes the line isn't taken, and its command
     /// hasn't run. After a refusal the lines are as they were.
     ///
-    /// It costs what its command costs. It costs as much as all lines where an LF stands in the line, which ends it: then several
-    /// are given at once, which are all taken or none. So it does behind a change that had no room or no memory.
+    /// An LF within the line ends it: then several lines are given at once, which are all taken or none.
+    ///
+    /// It costs what its command costs. A change that is given with fewer than 128 bytes of room copies the fleet besides. Several
+    /// lines at once cost as much as all lines, and so does the line after a change for which memory was refused.
     pub fn give(&mut self, line: &[u8], most: usize) -> Result<Told, Refusal>
         ensures told { IfOk result (λ told. IsTold self.old (with_line self.old line.now) told.text.items) }
         ensures taken { IfOk result (λ told. OnTrue told.is_taken (self.new ≡ with_line self.old line.now)) }
@@ -85,6 +87,7 @@ impl LiveScript {
         ensures long { IfOk result (λ told. OnFalse told.is_taken (most < length told.text.items)) }
         ensures left { IfOk result (λ told. OnFalse told.is_taken (self.new ≡ self.old)) }
         ensures refused { IfErr result (IsOfFault (with_line self.old line.now)) }
+        ensures refused_one { list_any (λ b. b == 10) line.now ≡ false → IfErr result (IsWhy (with_line self.old line.now)) }
         ensures kept { OnErr result (self.new ≡ self.old) }
     {
         if line.contains(&b'\n') {
@@ -94,10 +97,12 @@ impl LiveScript {
         }
     }
 
-    /// Tells what would be printed of a line, which isn't given: the lines are as they were.
+    /// Tells what would be printed of a line, which isn't given: the lines are as they were. It costs what [`LiveScript::give`]
+    /// costs, and a change copies the fleet.
     pub fn ask(&mut self, line: &[u8]) -> Result<Vec<u8>, Refusal>
         ensures told { IfOk result (λ text. IsTold self.old (with_line self.old line.now) text.items) }
         ensures refused { IfErr result (IsOfFault (with_line self.old line.now)) }
+        ensures refused_one { list_any (λ b. b == 10) line.now ≡ false → IfErr result (IsWhy (with_line self.old line.now)) }
         ensures kept { self.new ≡ self.old }
     {
         if line.contains(&b'\n') {
@@ -122,7 +127,7 @@ impl LiveScript {
         ensures fits { IfOk result (λ told. OnTrue told.is_taken (length told.text.items ≤ most)) }
         ensures long { IfOk result (λ told. OnFalse told.is_taken (most < length told.text.items)) }
         ensures left { IfOk result (λ told. OnFalse told.is_taken (self.new ≡ self.old)) }
-        ensures refused { IfErr result (IsOfFault (with_line self.old line.now)) }
+        ensures refused { IfErr result (IsWhy (with_line self.old line.now)) }
         ensures kept { OnErr result (self.new ≡ self.old) }
     {
         given_line(

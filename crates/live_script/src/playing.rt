@@ -10,8 +10,8 @@ use live_fleet::Fleet;
 use photo_script::{Command, Said, Script, report_text};
 use std::alloc::{AllocError, Global};
 
-// The room from which on a change runs on the fleet itself: the text of its report has at most some 80 bytes, unless a device's
-// name is long. Where there is less, it runs on a copy first.
+// The room from which on a change runs on the fleet itself. In a script no name has more than 16 characters, so the text of a
+// change's report is shorter than that. Where there is less room, the change runs on a copy first.
 const CHANGE_BYTES: usize = 128;
 
 /// What the last line of a script does to the fleet of the lines before it, where what is printed of it has at most `most`
@@ -38,6 +38,7 @@ pub fn run_line(
     }
     let text = printed(alloc, script, fleet, said)?;
     let is_taken = text.len() <= most;
+    // No change of a script comes here, but no clause bounds the text of its report.
     if !is_taken && !is_still {
         *fleet = None;
     }

@@ -2,12 +2,14 @@
 ghost use Rattle.std.specs.Prelude.{◌≡◌, ◌-◌, drop, string_bytes, IfOk, IfErr};
 ghost use Rattle.live_script.specs.Live.{IsTold, with_line};
 ghost use Rattle.live_script.specs.Printed.{IsPrinted};
-ghost use Rattle.live_script.specs.Refused.{IsOfFault};
+ghost use Rattle.live_script.specs.Refused.{IsOfFault, IsScript};
 ghost use Rattle.live_script.specs.declared.refusal.Refusal.TheVariants.{NoMemory};
 
 use crate::plain::plain_text;
 use crate::{LiveScript, Refusal};
+use photo_script::{MAX_TEXT_BYTES, ScriptFault};
 use std::alloc::{AllocError, Global};
+use std::str::from_utf8;
 
 /// A script anew that has these lines behind those of another one, an LF between two of them, and what is printed of these.
 pub fn with_lines(
@@ -20,7 +22,7 @@ pub fn with_lines(
     ensures refused { IfErr result (IsOfFault (with_line live.now lines.now)) }
 {
     let Ok(text) = joined(alloc, live.text(), lines) else {
-        return Err(Refusal::NoMemory);
+        return Err(unread(live.text(), lines));
     };
     match plain_text(alloc, text.as_slice()) {
         Ok(after) => begun_anew(alloc, live.text(), text.as_slice(), &after),
@@ -61,6 +63,20 @@ fn begun_anew(
     match LiveScript::of(alloc, longer) {
         Ok(live) => Ok((live, told)),
         Err(_) => Err(Refusal::NoMemory),
+    }
+}
+
+// Why lines behind a text aren't taken if memory is refused for the text of both.
+fn unread(text: &[u8], lines: &[u8]) -> Refusal
+    requires { IsScript text.now }
+    ensures { IsOfFault (with_line text.now lines.now) result }
+{
+    if lines.len() >= MAX_TEXT_BYTES.saturating_sub(text.len()) {
+        return Refusal::Script(ScriptFault::TooLarge);
+    }
+    match from_utf8(lines) {
+        Ok(_) => Refusal::NoMemory,
+        Err(_) => Refusal::Script(ScriptFault::NotUtf8),
     }
 }
 

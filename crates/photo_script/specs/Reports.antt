@@ -107,21 +107,22 @@ entry_text script where_ e =
 abbrev pub entries_text : Contents → Place → List Entry → List ℕ
 entries_text script where_ entries = flat_map (entry_text script where_) entries
 
-abbrev pub made_text : Contents → ℕ → Version → Place → List ℕ
-made_text script number v where_ =
-    decimal number ++ codes " made " ++ version_text script v ++ codes " " ++ place_text where_ ++ codes "\n"
+-- The texts of answers, without the number of their command
 
-abbrev pub not_held_text : ℕ → List ℕ
-not_held_text number = decimal number ++ codes " refused C1 NotHeld\n"
+abbrev pub made_text : Contents → Version → Place → List ℕ
+made_text script v where_ = codes "made " ++ version_text script v ++ codes " " ++ place_text where_ ++ codes "\n"
+
+abbrev pub not_held_text : List ℕ
+not_held_text = codes "refused C1 NotHeld\n"
 
 -- the first line of a list, with the numbers of versions in the store and in the out
-abbrev pub heading_text : Contents → ℕ → ℕ → ℕ → ℕ → List ℕ
-heading_text script number device stored waiting =
-    decimal number ++ codes " list " ++ name_of script device ++ codes " store " ++ decimal stored ++ codes " out " ++ decimal waiting ++ codes "\n"
+abbrev pub heading_text : Contents → ℕ → ℕ → ℕ → List ℕ
+heading_text script device stored waiting =
+    codes "list " ++ name_of script device ++ codes " store " ++ decimal stored ++ codes " out " ++ decimal waiting ++ codes "\n"
 
-abbrev pub listed_text : Contents → ℕ → ℕ → List Entry → List Entry → List ℕ
-listed_text script number device store out =
-    heading_text script number device (length store) (length out)
+abbrev pub listed_text : Contents → ℕ → List Entry → List Entry → List ℕ
+listed_text script device store out =
+    heading_text script device (length store) (length out)
     ++ entries_text script place.Store store ++ entries_text script place.Out out
 
 -- the pictures of a fragment, separated by commas, or `*` for the star
@@ -143,47 +144,47 @@ abbrev pub fragment_text : Contents → Fragment → List ℕ
 fragment_text script f = codes "  " ++ pictures_text f.pictures ++ codes " " ++ bounds_text script f.entries ++ codes "\n"
 
 -- the first line of a report on a device: its subject, and the number of lines that follow
-abbrev pub counted_heading_text : Contents → ℕ → List ℕ → ℕ → ℕ → List ℕ
-counted_heading_text script number what device count =
-    decimal number ++ what ++ name_of script device ++ codes " " ++ decimal count ++ codes "\n"
+abbrev pub counted_heading_text : Contents → List ℕ → ℕ → ℕ → List ℕ
+counted_heading_text script what device count =
+    what ++ name_of script device ++ codes " " ++ decimal count ++ codes "\n"
 
 -- the report on a device's knowledge: a heading, and a line for each fragment
-abbrev pub knowledge_text : Contents → ℕ → ℕ → List Fragment → List ℕ
-knowledge_text script number device fragments =
-    counted_heading_text script number (codes " knowledge ") device (length fragments) ++ flat_map (fragment_text script) fragments
+abbrev pub knowledge_text : Contents → ℕ → List Fragment → List ℕ
+knowledge_text script device fragments =
+    counted_heading_text script (codes "knowledge ") device (length fragments) ++ flat_map (fragment_text script) fragments
 
 abbrev pub yes_or_no : Bool → List ℕ
 yes_or_no known = if known then codes "yes" else codes "no"
 
-abbrev pub knows_text : ℕ → Bool → List ℕ
-knows_text number known = decimal number ++ codes " knows " ++ yes_or_no known ++ codes "\n"
+abbrev pub knows_text : Bool → List ℕ
+knows_text known = codes "knows " ++ yes_or_no known ++ codes "\n"
 
-abbrev pub not_narrower_text : ℕ → List ℕ
-not_narrower_text number = decimal number ++ codes " refused C2 NotNarrower\n"
+abbrev pub not_narrower_text : List ℕ
+not_narrower_text = codes "refused C2 NotNarrower\n"
 
 -- the report on a narrowing, with the number of versions moved to the out
-abbrev pub narrowed_text : ℕ → ℕ → List ℕ
-narrowed_text number count = decimal number ++ codes " narrowed " ++ decimal count ++ codes "\n"
+abbrev pub narrowed_text : ℕ → List ℕ
+narrowed_text count = codes "narrowed " ++ decimal count ++ codes "\n"
 
 -- the report on a refiltering, with the numbers of versions in the store and in the out
-abbrev pub refiltered_text : ℕ → ℕ → ℕ → List ℕ
-refiltered_text number stored waiting =
-    decimal number ++ codes " refiltered store " ++ decimal stored ++ codes " out " ++ decimal waiting ++ codes "\n"
+abbrev pub refiltered_text : ℕ → ℕ → List ℕ
+refiltered_text stored waiting =
+    codes "refiltered store " ++ decimal stored ++ codes " out " ++ decimal waiting ++ codes "\n"
 
--- the counts of a pull after a word that has a space on either side
-abbrev pub counts_text : ℕ → List ℕ → PullCounts → List ℕ
-counts_text number word counts =
-    decimal number ++ word ++ codes "taken " ++ decimal counts.taken ++ codes " handed " ++ decimal counts.handed
+-- the counts of a pull after a word that ends with a space
+abbrev pub counts_text : List ℕ → PullCounts → List ℕ
+counts_text word counts =
+    word ++ codes "taken " ++ decimal counts.taken ++ codes " handed " ++ decimal counts.handed
     ++ codes " notices " ++ decimal counts.notices ++ codes " dropped " ++ decimal counts.dropped
     ++ codes " learned " ++ yes_or_no counts.learned ++ codes "\n"
 
 -- the report on a pull
-abbrev pub pulled_text : ℕ → PullCounts → List ℕ
-pulled_text number counts = counts_text number (codes " pulled ") counts
+abbrev pub pulled_text : PullCounts → List ℕ
+pulled_text counts = counts_text (codes "pulled ") counts
 
 -- the report on a preview
-abbrev pub preview_text : ℕ → PullCounts → List ℕ
-preview_text number counts = counts_text number (codes " preview ") counts
+abbrev pub preview_text : PullCounts → List ℕ
+preview_text counts = counts_text (codes "preview ") counts
 
 -- the versions, each behind a space
 abbrev pub versions_text : Contents → List Version → List ℕ
@@ -194,23 +195,27 @@ abbrev pub conflict_text : Contents → Conflict → List ℕ
 conflict_text script c = codes "  " ++ decimal c.picture ++ versions_text script c.versions ++ codes "\n"
 
 -- the report on conflicts: a heading, and a line for each picture
-abbrev pub conflicts_text : Contents → ℕ → ℕ → List Conflict → List ℕ
-conflicts_text script number device pictures =
-    counted_heading_text script number (codes " conflicts ") device (length pictures) ++ flat_map (conflict_text script) pictures
+abbrev pub conflicts_text : Contents → ℕ → List Conflict → List ℕ
+conflicts_text script device pictures =
+    counted_heading_text script (codes "conflicts ") device (length pictures) ++ flat_map (conflict_text script) pictures
+
+-- the text of an answer, without the number of its command
+abbrev pub unnumbered_text : Contents → Answer → List ℕ
+unnumbered_text script (Plain (Made v where_)) = made_text script v where_
+unnumbered_text script (Plain NotHeld) = not_held_text
+unnumbered_text script (Plain NotNarrower) = not_narrower_text
+unnumbered_text script (Plain (Narrowed count)) = narrowed_text count
+unnumbered_text script (Plain (Refiltered stored waiting)) = refiltered_text stored waiting
+unnumbered_text script (Plain (Pulled counts)) = pulled_text counts
+unnumbered_text script (Plain (Preview counts)) = preview_text counts
+unnumbered_text script (Plain (Listed n store out)) = listed_text script n store out
+unnumbered_text script (Plain (Conflicts n pictures)) = conflicts_text script n pictures
+unnumbered_text script (KnowledgeOf n fragments) = knowledge_text script n fragments
+unnumbered_text script (Plain (Knows known)) = knows_text known
 
 -- the text of an answer to the command of that number
 unfoldable pub text_of : Contents → ℕ → Answer → List ℕ
-text_of script number (Plain (Made v where_)) = made_text script number v where_
-text_of script number (Plain NotHeld) = not_held_text number
-text_of script number (Plain NotNarrower) = not_narrower_text number
-text_of script number (Plain (Narrowed count)) = narrowed_text number count
-text_of script number (Plain (Refiltered stored waiting)) = refiltered_text number stored waiting
-text_of script number (Plain (Pulled counts)) = pulled_text number counts
-text_of script number (Plain (Preview counts)) = preview_text number counts
-text_of script number (Plain (Listed n store out)) = listed_text script number n store out
-text_of script number (Plain (Conflicts n pictures)) = conflicts_text script number n pictures
-text_of script number (KnowledgeOf n fragments) = knowledge_text script number n fragments
-text_of script number (Plain (Knows known)) = knows_text number known
+text_of script number answer = decimal number ++ codes " " ++ unnumbered_text script answer
 
 -- the texts of the answers, numbered from n
 abbrev pub texts_from : Contents → ℕ → List Answer → List ℕ

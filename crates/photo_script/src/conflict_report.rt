@@ -14,15 +14,14 @@ use std::alloc::AllocError;
 pub fn push_conflicts(
     text: &mut String,
     script: &Script,
-    number: u32,
     device: u16,
     pictures: &ConflictList,
 ) -> Result<(), AllocError>
     requires device { device < length script.now.names }
     requires authors { AreConflictsOfScript script.now pictures.now }
-    ensures { OnOk result (string_bytes text.new ≡ string_bytes text.old ++ conflicts_text script.now number device pictures.now) }
+    ensures { OnOk result (string_bytes text.new ≡ string_bytes text.old ++ conflicts_text script.now device pictures.now) }
 {
-    push_counted_heading(text, script, number, " conflicts ", device, pictures.len())?;
+    push_counted_heading(text, script, "conflicts ", device, pictures.len())?;
     push_pictures(text, script, pictures.as_slice())?;
     Ok(())
 }

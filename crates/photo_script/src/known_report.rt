@@ -15,22 +15,14 @@ use std::alloc::AllocError;
 pub fn push_knowledge(
     text: &mut String,
     script: &Script,
-    number: u32,
     device: u16,
     knowledge: &Knowledge,
 ) -> Result<(), AllocError>
     requires device { device < length script.now.names }
     requires authors { AllByRecursion (IsFragmentOfScript script.now) knowledge.now.known }
-    ensures { OnOk result (string_bytes text.new ≡ string_bytes text.old ++ knowledge_text script.now number device knowledge.now.known) }
+    ensures { OnOk result (string_bytes text.new ≡ string_bytes text.old ++ knowledge_text script.now device knowledge.now.known) }
 {
-    push_counted_heading(
-        text,
-        script,
-        number,
-        " knowledge ",
-        device,
-        knowledge.fragments(),
-    )?;
+    push_counted_heading(text, script, "knowledge ", device, knowledge.fragments())?;
     push_fragments(text, script, knowledge)?;
     Ok(())
 }

@@ -9,10 +9,10 @@ mod moved_report;
 mod report;
 mod tally;
 
-pub use fleet_model::{Command, Tally, Totals};
-pub use report::{Report, push_report, report_text};
+pub use fleet_model::{Command, CommandKind, Tally, Totals};
+pub use report::{Report, push_report, push_unnumbered, report_text};
 pub use script_reader::{
     GrowingScript, LineFault, MAX_COMMANDS, MAX_DEVICES, MAX_TEXT_BYTES, Said, Script, ScriptFault,
-    devices_of, read_script,
+    devices_of, kind_of, read_script,
 };
 pub use tally::totals_of;

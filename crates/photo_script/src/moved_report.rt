@@ -3,64 +3,53 @@ ghost use Rattle.std.specs.Prelude.{◌≡◌, ◌++◌, string_bytes, OnOk};
 ghost use Rattle.std.specs.Fmt.{decimal};
 ghost use Rattle.photo_script.specs.Reports.{not_narrower_text, narrowed_text, refiltered_text, counts_text, pulled_text, preview_text};
 
-use crate::report::{push_decimal, yes_or_no};
+use crate::report::yes_or_no;
 use itoa::Buffer;
 use photo_pull::PullCounts;
 use std::alloc::AllocError;
 
 /// Appends the refusal of a filter that the device's own doesn't cover.
-pub fn push_not_narrower(text: &mut String, number: u32) -> Result<(), AllocError>
-    ensures { OnOk result (string_bytes text.new ≡ string_bytes text.old ++ not_narrower_text number) }
+pub fn push_not_narrower(text: &mut String) -> Result<(), AllocError>
+    ensures { OnOk result (string_bytes text.new ≡ string_bytes text.old ++ not_narrower_text) }
 {
-    writeln!(text, "{number} refused C2 NotNarrower")?;
+    text.push_str("refused C2 NotNarrower\n")?;
     Ok(())
 }
 
 /// Appends a report on a narrowing, with the number of versions moved to the out.
-pub fn push_narrowed(text: &mut String, number: u32, moved: u64) -> Result<(), AllocError>
-    ensures { OnOk result (string_bytes text.new ≡ string_bytes text.old ++ narrowed_text number moved) }
+pub fn push_narrowed(text: &mut String, moved: u64) -> Result<(), AllocError>
+    ensures { OnOk result (string_bytes text.new ≡ string_bytes text.old ++ narrowed_text moved) }
 {
-    writeln!(text, "{number} narrowed {moved}")?;
+    writeln!(text, "narrowed {moved}")?;
     Ok(())
 }
 
 /// Appends a report on a refiltering, with the numbers of versions in the store and in the out.
-pub fn push_refiltered(
-    text: &mut String,
-    number: u32,
-    store: u64,
-    out: u64,
-) -> Result<(), AllocError>
-    ensures { OnOk result (string_bytes text.new ≡ string_bytes text.old ++ refiltered_text number store out) }
+pub fn push_refiltered(text: &mut String, store: u64, out: u64) -> Result<(), AllocError>
+    ensures { OnOk result (string_bytes text.new ≡ string_bytes text.old ++ refiltered_text store out) }
 {
-    writeln!(text, "{number} refiltered store {store} out {out}")?;
+    writeln!(text, "refiltered store {store} out {out}")?;
     Ok(())
 }
 
 /// Appends a report on a pull.
-pub fn push_pulled(text: &mut String, number: u32, counts: &PullCounts) -> Result<(), AllocError>
-    ensures { OnOk result (string_bytes text.new ≡ string_bytes text.old ++ pulled_text number counts.now) }
+pub fn push_pulled(text: &mut String, counts: &PullCounts) -> Result<(), AllocError>
+    ensures { OnOk result (string_bytes text.new ≡ string_bytes text.old ++ pulled_text counts.now) }
 {
-    push_counts(text, number, " pulled ", counts)
+    push_counts(text, "pulled ", counts)
 }
 
 /// Appends a report on a preview.
-pub fn push_preview(text: &mut String, number: u32, counts: &PullCounts) -> Result<(), AllocError>
-    ensures { OnOk result (string_bytes text.new ≡ string_bytes text.old ++ preview_text number counts.now) }
+pub fn push_preview(text: &mut String, counts: &PullCounts) -> Result<(), AllocError>
+    ensures { OnOk result (string_bytes text.new ≡ string_bytes text.old ++ preview_text counts.now) }
 {
-    push_counts(text, number, " preview ", counts)
+    push_counts(text, "preview ", counts)
 }
 
-// Appends the counts of a pull after `word`, which has a space on either side.
-fn push_counts(
-    text: &mut String,
-    number: u32,
-    word: &str,
-    counts: &PullCounts,
-) -> Result<(), AllocError>
-    ensures { OnOk result (string_bytes text.new ≡ string_bytes text.old ++ counts_text number word.now counts.now) }
+// Appends the counts of a pull after `word`, which ends with a space.
+fn push_counts(text: &mut String, word: &str, counts: &PullCounts) -> Result<(), AllocError>
+    ensures { OnOk result (string_bytes text.new ≡ string_bytes text.old ++ counts_text word.now counts.now) }
 {
-    push_decimal(text, number)?;
     text.push_str(word)?;
     push_count(text, "taken ", counts.taken)?;
     push_count(text, " handed ", counts.handed)?;

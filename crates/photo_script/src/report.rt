@@ -66,7 +66,7 @@ ghost use Rattle.photo_record.specs.Showing.{padded_decimal, day_text, words_tex
 ghost use Rattle.photo_version.specs.Author.{device_of_author};
 ghost use Rattle.photo_version.specs.Showing.{epoch_text};
 ghost use Rattle.photo_version.specs.Version.{version};
-ghost use Rattle.photo_script.specs.Reports.{IsAbout, IsOfScript, AreOfScript, answer_of, text_of};
+ghost use Rattle.photo_script.specs.Reports.{IsAbout, IsOfScript, AreOfScript, answer_of, text_of, unnumbered_text};
 ghost use Rattle.photo_script.specs.Reports.{made_text, not_held_text, heading_text, counted_heading_text, listed_text};
 ghost use Rattle.photo_script.specs.Reports.{author_text, version_text, place_text};
 ghost use Rattle.photo_script.specs.Reports.{entry_text, entries_text, yes_or_no, knows_text};
@@ -100,24 +100,36 @@ pub fn push_report(
     requires { IsAbout script.now (answer_of report.now) }
     ensures { OnOk result (string_bytes text.new ≡ string_bytes text.old ++ text_of script.now number (answer_of report.now)) }
 {
+    push_decimal(text, number)?;
+    text.push_str(" ")?;
+    push_unnumbered(text, script, report)?;
+    Ok(())
+}
+
+/// Appends the text of a report without the number of its command. Its only error is want of memory; then some of the report's
+/// first bytes are appended.
+pub fn push_unnumbered(
+    text: &mut String,
+    script: &Script,
+    report: &Report,
+) -> Result<(), AllocError>
+    requires { IsAbout script.now (answer_of report.now) }
+    ensures { OnOk result (string_bytes text.new ≡ string_bytes text.old ++ unnumbered_text script.now (answer_of report.now)) }
+{
     match report {
-        Report::Made { version, place } => push_made(text, script, number, *version, *place)?,
-        Report::NotHeld => push_not_held(text, number)?,
-        Report::NotNarrower => push_not_narrower(text, number)?,
-        Report::Narrowed(moved) => push_narrowed(text, number, *moved)?,
-        Report::Refiltered { store, out } => push_refiltered(text, number, *store, *out)?,
-        Report::Pulled(counts) => push_pulled(text, number, counts)?,
-        Report::Preview(counts) => push_preview(text, number, counts)?,
-        Report::Listed { device, store, out } => {
-            push_listed(text, script, number, *device, store, out)?
-        }
-        Report::Conflicts { device, pictures } => {
-            push_conflicts(text, script, number, *device, pictures)?
-        }
+        Report::Made { version, place } => push_made(text, script, *version, *place)?,
+        Report::NotHeld => push_not_held(text)?,
+        Report::NotNarrower => push_not_narrower(text)?,
+        Report::Narrowed(moved) => push_narrowed(text, *moved)?,
+        Report::Refiltered { store, out } => push_refiltered(text, *store, *out)?,
+        Report::Pulled(counts) => push_pulled(text, counts)?,
+        Report::Preview(counts) => push_preview(text, counts)?,
+        Report::Listed { device, store, out } => push_listed(text, script, *device, store, out)?,
+        Report::Conflicts { device, pictures } => push_conflicts(text, script, *device, pictures)?,
         Report::KnowledgeOf { device, knowledge } => {
-            push_knowledge(text, script, number, *device, knowledge)?
+            push_knowledge(text, script, *device, knowledge)?
         }
-        Report::Knows(known) => push_knows(text, number, *known)?,
+        Report::Knows(known) => push_knows(text, *known)?,
     }
     Ok(())
 }
@@ -125,15 +137,13 @@ pub fn push_report(
 fn push_made(
     text: &mut String,
     script: &Script,
-    number: u32,
     version: Version,
     place: Place,
 ) -> Result<(), AllocError>
     requires { IsOfScript script.now version }
-    ensures { OnOk result (string_bytes text.new ≡ string_bytes text.old ++ made_text script.now number version place) }
+    ensures { OnOk result (string_bytes text.new ≡ string_bytes text.old ++ made_text script.now version place) }
 {
-    push_decimal(text, number)?;
-    text.push_str(" made ")?;
+    text.push_str("made ")?;
     push_version(text, script, version)?;
     text.push_str(" ")?;
     text.push_str(place_word(place))?;
@@ -141,25 +151,24 @@ fn push_made(
     Ok(())
 }
 
-fn push_not_held(text: &mut String, number: u32) -> Result<(), AllocError>
-    ensures { OnOk result (string_bytes text.new ≡ string_bytes text.old ++ not_held_text number) }
+fn push_not_held(text: &mut String) -> Result<(), AllocError>
+    ensures { OnOk result (string_bytes text.new ≡ string_bytes text.old ++ not_held_text) }
 {
-    writeln!(text, "{number} refused C1 NotHeld")?;
+    text.push_str("refused C1 NotHeld\n")?;
     Ok(())
 }
 
-fn push_knows(text: &mut String, number: u32, known: bool) -> Result<(), AllocError>
-    ensures { OnOk result (string_bytes text.new ≡ string_bytes text.old ++ knows_text number known) }
+fn push_knows(text: &mut String, known: bool) -> Result<(), AllocError>
+    ensures { OnOk result (string_bytes text.new ≡ string_bytes text.old ++ knows_text known) }
 {
     let word = yes_or_no(known);
-    writeln!(text, "{number} knows {word}")?;
+    writeln!(text, "knows {word}")?;
     Ok(())
 }
 
 fn push_listed(
     text: &mut String,
     script: &Script,
-    number: u32,
     device: u16,
     store: &SharedList,
     out: &SharedList,
@@ -168,9 +177,9 @@ fn push_listed(
     requires store { AreOfScript script.now (entries_of store.now) }
     requires out { AreOfScript script.now (entries_of out.now) }
     ensures { OnOk result (string_bytes text.new
-        ≡ string_bytes text.old ++ listed_text script.now number device (entries_of store.now) (entries_of out.now)) }
+        ≡ string_bytes text.old ++ listed_text script.now device (entries_of store.now) (entries_of out.now)) }
 {
-    push_heading(text, script, number, device, store.len(), out.len())?;
+    push_heading(text, script, device, store.len(), out.len())?;
     push_helds(text, script, Place::Store, store.as_slice())?;
     push_helds(text, script, Place::Out, out.as_slice())?;
     Ok(())
@@ -179,33 +188,31 @@ fn push_listed(
 fn push_heading(
     text: &mut String,
     script: &Script,
-    number: u32,
     device: u16,
     stored: usize,
     waiting: usize,
 ) -> Result<(), AllocError>
     requires { device < length script.now.names }
-    ensures { OnOk result (string_bytes text.new ≡ string_bytes text.old ++ heading_text script.now number device stored waiting) }
+    ensures { OnOk result (string_bytes text.new ≡ string_bytes text.old ++ heading_text script.now device stored waiting) }
 {
     let name = script.name(device);
-    writeln!(text, "{number} list {name} store {stored} out {waiting}")?;
+    writeln!(text, "list {name} store {stored} out {waiting}")?;
     Ok(())
 }
 
-// Appends the first line of a report on a device, with the number of lines that follow; `what` has a space on either side.
+// Appends the first line of a report on a device, with the number of lines that follow; `what` ends with a space.
 pub(crate) fn push_counted_heading(
     text: &mut String,
     script: &Script,
-    number: u32,
     what: &str,
     device: u16,
     count: usize,
 ) -> Result<(), AllocError>
     requires { device < length script.now.names }
-    ensures { OnOk result (string_bytes text.new ≡ string_bytes text.old ++ counted_heading_text script.now number what.now device count) }
+    ensures { OnOk result (string_bytes text.new ≡ string_bytes text.old ++ counted_heading_text script.now what.now device count) }
 {
     let name = script.name(device);
-    writeln!(text, "{number}{what}{name} {count}")?;
+    writeln!(text, "{what}{name} {count}")?;
     Ok(())
 }
 

@@ -6,8 +6,9 @@ use Rattle.std.specs.Str.Parse.{digits_value, without_leading_plus}
 use Rattle.clap.specs.ValueTests.{is_unsigned_in}
 use Rattle.clap.specs.Words.{Row, Text, IsAmong, all_of, subcommand_of, first_of, one_of}
 use Rattle.clap.specs.declared.error.kind.ErrorKind.{ErrorKind}
-use Rattle.clap.specs.declared.error.kind.ErrorKind.TheVariants.{DisplayHelp, DisplayVersion, MissingSubcommand}
+use Rattle.clap.specs.declared.error.kind.ErrorKind.TheVariants.{MissingSubcommand}
 use Rattle.fleet_workers.specs.Limits.{max_workers}
+use Rattle.script_programs.specs.Helps.{IsWish}
 use Rattle.photofleet_cli.specs.CommandLine.{program, errors_of}
 use Rattle.photofleet_cli.specs.declared.words.Job.{Job}
 use Rattle.photofleet_cli.specs.declared.words.Job.TheVariants as job
@@ -61,10 +62,6 @@ asked_of words = option_and_then asked_in (subcommand_of program words)
 pub record Asks (words : List Text) (file : Text) (work : Work) : Type 0 where
   pub accepted : errors_of words ≡ []
   pub named : asked_of words ≡ Some (file, work)
-
--- `clap` has these kinds of error for a request for help or for the version
-abbrev pub IsWish : ErrorKind → Type 0
-IsWish k = (k ≡ DisplayHelp) ⊎ (k ≡ DisplayVersion)
 
 -- the words ask for help or for the version
 abbrev pub AsksForHelp : List Text → Type 0

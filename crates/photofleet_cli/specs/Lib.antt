@@ -1,4 +1,3 @@
-pub mod Status
 pub mod CommandLine
 pub mod Asked
 pub mod Doing

@@ -48,7 +48,7 @@ PIC       a number from 1 to 999999999, another one for each 'new'
 RATING    a digit from 0 to 5
 DATE      YYYY-MM-DD
 WORDS     words with commas between them and no spaces, or - for none
-VERSION   NAME:N, the Nth version that the device made, or NAME.E:N, the Nth since its Eth refilter
+VERSION   NAME:N, the device's Nth version before any refilter, or NAME.E:N, the Nth after its Eth
 FILTER    tests joined by 'and', 'or' and 'not', with round brackets. A test is all, none,
           rating OP 4, day OP 2026-12-31 or keyword beach, where OP is >=, <= or =
 
@@ -66,8 +66,9 @@ Written to the file my.script, it is run by 'photofleet plain my.script'.";
 
 /// The last part of the help of `run`.
 pub const RUN: &str =
-    "Each worker is a thread of its own. The batches, which 'photofleet batches FILE' tells, run one
-after another, and of each batch the commands are dealt to the workers in turn.
+    "The first worker is the calling thread, each other one a thread of its own. The batches, which
+'photofleet batches FILE' prints, run one after another, and of each batch the commands are dealt
+to the workers in turn.
 
 The reports are those of 'photofleet plain FILE', however many workers there are, in the order of
 the commands' numbers. They are written when all commands have run.

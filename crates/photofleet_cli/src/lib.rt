@@ -7,11 +7,10 @@ pub mod laws;
 mod opener;
 mod refusals;
 mod serving;
-mod statuses;
 mod streams;
 mod words;
 
 pub use opener::Opener;
 pub use refusals::without_words;
+pub use script_programs::without_memory;
 pub use serving::serve;
-pub use statuses::without_memory;

@@ -1,17 +1,18 @@
 //! The whole program, from the words to the exit status.
 ghost use Rattle.std.specs.Prelude.{◌≡◌, ◌⊎◌, ℕ, List, true, map, Err, OnOk, IfSome};
 ghost use Rattle.script_reader.specs.declared.fault.ScriptFault as script;
-ghost use Rattle.fleet_steps.specs.declared.fault.RunError.TheVariants.{Script, Write};
-ghost use Rattle.photofleet_cli.specs.Status.{is_status, status_of};
+ghost use Rattle.run_error.specs.declared.error.RunError.TheVariants.{Script, Write};
+ghost use Rattle.script_programs.specs.Helps.{AppendsSome};
+ghost use Rattle.script_programs.specs.Statuses.{is_status, status_of};
 ghost use Rattle.photofleet_cli.specs.Asked.{Work, work_of, AsksForHelp, AreRefused, Asks, OfFile};
-ghost use Rattle.photofleet_cli.specs.Doing.{AppendsSome, WritesAll, WritesSome, WritesPart};
+ghost use Rattle.photofleet_cli.specs.Doing.{WritesAll, WritesSome, WritesPart};
 
+use crate::helps::OVERVIEW;
 use crate::opener::Opener;
-use crate::refusals::refused;
-use crate::statuses::status_of;
 use crate::streams::workers_stream;
 use crate::words::{Job, Request, request_of};
 use fleet_runner::{RunError, plain_stream, plan_stream, replay_stream};
+use script_programs::{refused, status_of};
 use std::alloc::Global;
 use std::convert::AsStr;
 use std::io::Write;
@@ -28,7 +29,7 @@ use std::thread::Threads;
 /// - 3: The words named a file that can't be opened or read, or whose bytes are no script, or memory was refused while its
 ///   script was read. Nothing was written to `out`.
 /// - 4: Memory was refused elsewhere, or a worker's thread couldn't be started, or the order isn't lawful. Nothing was
-///   written to `out`, or the whole texts of some first reports, or a front of the plan's text.
+///   written to `out`, or the whole texts of some first reports, or the lines of the plan's first commands.
 /// - 5: A write failed. A front of what was asked for was written, or of help or the version.
 ///
 /// `err` gets the reason of a failure; a failed write to `err` changes no status. `clap`'s contracts for the program's command
@@ -58,7 +59,7 @@ pub fn serve<S: AsStr, O: Opener, W: Write, E: Write, T: Threads + Wait + Copy +
             let done = perform(rt, alloc, &mut request, opener, out);
             status_of(done, err)
         }
-        Err(refusal) => refused(alloc, &refusal, out, err),
+        Err(refusal) => refused(alloc, &refusal, OVERVIEW, out, err),
     }
 }
 

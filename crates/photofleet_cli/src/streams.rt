@@ -1,7 +1,7 @@
 //! Streams a run by workers, from a reader's bytes to what it prints.
 ghost use Rattle.std.specs.Prelude.{◌≡◌, ◌⊎◌, OnOk, IfErr, IfSome, Err};
 ghost use Rattle.script_reader.specs.declared.fault.ScriptFault.{ScriptFault};
-ghost use Rattle.fleet_steps.specs.declared.fault.RunError.TheVariants.{NoMemory, NoWorker, Script, Write};
+ghost use Rattle.run_error.specs.declared.error.RunError.TheVariants.{NoMemory, NoWorker, Script, Write};
 ghost use Rattle.fleet_runner.specs.Outputs.{IsOfWorkersRun};
 ghost use Rattle.photofleet_cli.specs.Asked.{run};
 ghost use Rattle.photofleet_cli.specs.Doing.{WritesAll, WritesSome, WritesPart};
@@ -12,7 +12,7 @@ use std::io::{Read, Write};
 use std::sync::{Arc, Wait};
 use std::thread::Threads;
 
-/// Reads a script, runs it by several workers, each in a thread of its own, and then writes its reports.
+/// Reads a script, runs it by several workers, and then writes its reports.
 ///
 /// After a `Script` fault and after `NoWorker` nothing is written. After `NoMemory` the whole texts of some first reports are
 /// written, perhaps of none, and after `Write` a front of all texts.

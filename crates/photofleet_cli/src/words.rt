@@ -190,7 +190,7 @@ fn workers_argument<'a>(alloc: Global) -> Arg<'a>
     Arg::new(alloc, "workers")
         .long("workers")
         .value_name("N")
-        .help("How many workers run, 1 to 256, each in a thread of its own")
+        .help("How many workers run at most, 1 to 256")
         .required(true)
         .value_parser(value_parser!(u16).range(1..=256))
         .action(ArgAction::Set)

@@ -4,11 +4,12 @@ ghost use Rattle.std.specs.Prelude.{◌≤◌, ◌<◌, length};
 use crate::columns::picture_of;
 use crate::drawing::{Drawing, Spot};
 use crate::filters::{AT_MARK, push_whole_filter, shown_filter};
-use photo_device::Place;
+use live_fleet::Moves;
+use photo_device::{Place, SharedHeld};
 use photo_filter_rules::Filter;
 use photo_pull::PullCounts;
 use photo_script::{Command, Report, Script, devices_of};
-use script_views::{device_name, push_version};
+use script_views::{device_name, push_moved, push_version};
 use std::alloc::AllocError;
 
 /// Draws the command of that number in a column, by the report on it and what it moved.
@@ -18,7 +19,7 @@ pub fn draw_command(
     number: u32,
     column: u32,
     report: &Report,
-    moved: &str,
+    moves: &Option<Moves>,
 ) -> Result<(), AllocError>
     requires first { 0 < number }
     requires within { number ≤ length script.now.commands }
@@ -27,7 +28,9 @@ pub fn draw_command(
     drawing.above.push_str("<g><title>")?;
     push_title(&mut drawing.above, script, number, command)?;
     push_outcome(&mut drawing.above, script, command, report)?;
-    push_moves_of(&mut drawing.above, report, moved)?;
+    if let Some(moves) = moves {
+        push_moves_of(&mut drawing.above, script, report, moves)?;
+    }
     drawing.above.push_str("</title>")?;
     draw_marks(drawing, column, command, report)?;
     drawing.above.push_str("</g>\n")
@@ -112,22 +115,38 @@ fn push_not_narrower(title: &mut String, command: &Command) -> Result<(), AllocE
 // The most versions whose names a title has.
 const NAMED: usize = 20;
 
-// Which versions a pull moved, those from an out in brackets, or would move. Each has two words, the picture's number and its own name.
-fn push_moves_of(title: &mut String, report: &Report, moved: &str) -> Result<(), AllocError> {
-    let verb = match report {
-        Report::Pulled(_) => "; moved",
-        Report::Preview(_) => "; would move",
-        _ => return Ok(()),
-    };
-    if moved.is_empty() {
+// Which versions a pull moved, or would move: those from an out in brackets.
+fn push_moves_of(
+    title: &mut String,
+    script: &Script,
+    report: &Report,
+    moves: &Moves,
+) -> Result<(), AllocError> {
+    if moves.taken.is_empty() && moves.handed.is_empty() {
         return Ok(());
     }
-    title.push_str(verb)?;
-    for word in moved.split(' ').skip(1).take(2 * NAMED) {
-        write!(title, " {word}")?;
-    }
-    if moved.split(' ').nth(2 * NAMED + 1).is_some() {
+    title.push_str(match report {
+        Report::Preview(_) => "; would move",
+        _ => "; moved",
+    })?;
+    let taken = moves.taken.len().min(NAMED);
+    let handed = moves.handed.len().min(NAMED - taken);
+    push_all_moved(title, script, &moves.taken[..taken], Place::Store)?;
+    push_all_moved(title, script, &moves.handed[..handed], Place::Out)?;
+    if taken < moves.taken.len() || handed < moves.handed.len() {
         title.push_str(" and more")?;
+    }
+    Ok(())
+}
+
+fn push_all_moved(
+    title: &mut String,
+    script: &Script,
+    versions: &[SharedHeld],
+    place: Place,
+) -> Result<(), AllocError> {
+    for held in versions {
+        push_moved(title, script, held, place)?;
     }
     Ok(())
 }

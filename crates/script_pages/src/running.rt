@@ -6,9 +6,8 @@ use crate::drawing::Drawing;
 use crate::events::draw_command;
 use crate::layout::Layout;
 use crate::strife::{finish_strife, note_strife};
-use live_fleet::Fleet;
+use live_fleet::{Fleet, Moves, pull_moves};
 use photo_script::{Command, Script, devices_of};
-use script_views::push_moved;
 use std::alloc::{AllocError, Global};
 
 /// Runs the script, and appends its drawing to a text.
@@ -72,27 +71,25 @@ fn draw_next(
     ensures long { length fleet.new.devices ≡ length fleet.old.devices }
     ensures count { fleet.new.commands ≤ fleet.old.commands + 1 }
 {
-    let moved = moved_by(drawing.alloc, script, fleet, script.command(number))?;
+    let moves = moved_by(drawing.alloc, fleet, script.command(number))?;
     let report = fleet.run(script.command(number))?;
-    draw_command(drawing, script, number, column, &report, &moved)
+    draw_command(drawing, script, number, column, &report, &moves)
 }
 
-// The versions that a pull moves, or would move: none of another command.
-fn moved_by(
-    alloc: Global,
-    script: &Script,
-    fleet: &Fleet,
-    command: &Command,
-) -> Result<String, AllocError> {
-    let mut moved = String::new(alloc);
-    if let (target, Some(source)) = devices_of(command) {
-        let devices = fleet.devices();
-        if let (Some(target), Some(source)) = (
-            devices.get(usize::from(target)),
-            devices.get(usize::from(source)),
-        ) {
-            let _counts = push_moved(&mut moved, script, target, source, &[])?;
-        }
+// What a pull moves, or would move; nothing of another command.
+fn moved_by(alloc: Global, fleet: &Fleet, command: &Command) -> Result<Option<Moves>, AllocError> {
+    let (target, Some(source)) = devices_of(command) else {
+        return Ok(None);
+    };
+    let devices = fleet.devices();
+    let (Some(target), Some(source)) = (
+        devices.get(usize::from(target)),
+        devices.get(usize::from(source)),
+    ) else {
+        return Ok(None);
+    };
+    match pull_moves(alloc, target, source) {
+        Ok(moves) => Ok(Some(moves)),
+        Err(error) => Err(error),
     }
-    Ok(moved)
 }

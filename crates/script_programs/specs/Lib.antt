@@ -1,1 +1,2 @@
+pub mod Helps
 pub mod Statuses

@@ -1,5 +1,5 @@
-//! What the programs share that show scripts and talk of them: the bytes of a file, exit statuses, and the answers to words that
-//! ask for nothing. Its invariant: **a status is that of what was done**, as `photofleet` gives it.
+//! What all programs share: the bytes of a file, exit statuses, and the answers to words that ask for no work. Its invariant:
+//! **a status is that of what was done**.
 #![tactic(auto)]
 
 mod refusals;

@@ -1,47 +1,72 @@
-//! Answers to command lines that ask for nothing: help, and why words are refused.
-ghost use Rattle.std.specs.Prelude.{◌≡◌, ◌⊎◌};
+//! Answers to command lines that ask for no work: help, the version, or why words are refused.
+ghost use Rattle.std.specs.Prelude.{◌≡◌, ◌≢◌, ◌⊎◌, ◌<◌, length, true};
 ghost use Rattle.std.specs.declared.io.ErrorKind.TheVariants.{OutOfMemory};
+ghost use Rattle.clap.specs.Words.{kind_of};
+ghost use Rattle.script_programs.specs.Helps.{AppendsSome, IsWish};
+ghost use Rattle.script_programs.specs.Statuses.{is_status};
 
 use crate::statuses::{BAD_WORDS, DONE, status_of, without_memory};
 use clap::Command;
 use clap::error::ErrorKind;
-use fleet_steps::RunError;
+use run_error::RunError;
 use std::alloc::{AllocError, Global};
 use std::io::{self, Write};
 
-/// Writes the help to `out`, if that is asked for; else tells `err` why the words are refused. Gives the status.
+/// Writes the help or the version to `out`, if that is asked for; else says on `err` why the words are refused. Gives the status.
+/// `overview` is written where `clap` has no text, of which no contract says that it isn't empty.
 ///
-/// 0: help was asked for. 2: the words are refused. 4: memory was refused. 5: the help can't be written.
+/// 0: help or the version was asked for. 2: the words are refused. 4: memory was refused. 5: the text can't be written.
 pub fn refused<W: Write, E: Write>(
     alloc: Global,
     refusal: &clap::Error,
+    overview: &str,
     out: &mut W,
     err: &mut E,
 ) -> u8
-    ensures status { (result ≡ 0) ⊎ ((result ≡ 2) ⊎ ((result ≡ 4) ⊎ (result ≡ 5))) }
+    requires { 0 < length overview.now }
+    ensures status { is_status result ≡ true }
+    ensures of_words { result ≢ 3 }
+    ensures help { (result ≡ 0) ⊎ (result ≡ 5) → IsWish (kind_of refusal.now) }
+    ensures done { result ≡ 0 → AppendsSome (W.contents out.old) (W.contents out.new) }
+    ensures words { result ≡ 2 → (IsWish (kind_of refusal.now) → ⊥) × (kind_of refusal.now ≢ ErrorKind.OutOfMemory) }
     ensures nothing { (result ≡ 2) ⊎ (result ≡ 4) → out.new ≡ out.old }
 {
     match refusal.kind() {
         ErrorKind::OutOfMemory => without_memory(err),
-        ErrorKind::DisplayHelp => help(alloc, refusal, out, err),
+        ErrorKind::DisplayHelp | ErrorKind::DisplayVersion => {
+            shown(alloc, refusal, overview, out, err)
+        }
         _ => bad_words(alloc, refusal, err),
     }
 }
 
-fn help<W: Write, E: Write>(alloc: Global, help: &clap::Error, out: &mut W, err: &mut E) -> u8
+fn shown<W: Write, E: Write>(
+    alloc: Global,
+    wish: &clap::Error,
+    overview: &str,
+    out: &mut W,
+    err: &mut E,
+) -> u8
+    requires { 0 < length overview.now }
     ensures status { (result ≡ 0) ⊎ ((result ≡ 4) ⊎ (result ≡ 5)) }
+    ensures done { result ≡ 0 → AppendsSome (W.contents out.old) (W.contents out.new) }
     ensures nothing { result ≡ 4 → out.new ≡ out.old }
 {
-    let Ok(text) = help.to_string(alloc) else {
+    let Ok(text) = wish.to_string(alloc) else {
         return without_memory(err);
     };
-    if out.write_all(text.as_bytes()).is_err() || out.flush().is_err() {
+    let shown = if text.is_empty() {
+        overview
+    } else {
+        text.as_str()
+    };
+    if out.write_all(shown.as_bytes()).is_err() || out.flush().is_err() {
         return status_of(Err(RunError::Write), err);
     }
     DONE
 }
 
-// Tells why the words are refused.
+// Says on `err` why the words are refused.
 fn bad_words<E: Write>(alloc: Global, refusal: &clap::Error, err: &mut E) -> u8
     ensures { (result ≡ 2) ⊎ (result ≡ 4) }
 {
@@ -52,8 +77,8 @@ fn bad_words<E: Write>(alloc: Global, refusal: &clap::Error, err: &mut E) -> u8
     BAD_WORDS
 }
 
-/// Tells why the command line gave no words, and gives the status: a word that isn't UTF-8 is refused. `command` is the program's
-/// command line, if there was memory for that.
+/// Says on `err` why the command line gave no words, and gives the status: a word that isn't UTF-8 is refused. `command` is the
+/// program's command line, if there was memory for that.
 pub fn without_words<E: Write>(
     alloc: Global,
     why: io::ErrorKind,

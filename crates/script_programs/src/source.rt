@@ -1,4 +1,8 @@
 //! The bytes of a file or of another input.
+ghost use Rattle.std.specs.Prelude.{◌≡◌, ◌≤◌, length, IfOk, IfSome};
+ghost use Rattle.script_reader.specs.Limits.{max_text_bytes};
+
+use bounded_read::{ReadFault, read_whole};
 use photo_script::{MAX_TEXT_BYTES, ScriptFault};
 use std::alloc::Global;
 use std::fs;
@@ -23,20 +27,14 @@ pub fn read_file<F: Files>(files: &F, alloc: Global, file: &str) -> Result<Vec<u
 }
 
 /// The bytes of an input, up to its end. They are no more than a script may have.
-pub fn read_input<R: Read>(alloc: Global, reader: &mut R) -> Result<Vec<u8>, Unread> {
-    let mut bytes = Vec::new(alloc);
-    let mut piece = [0u8; 4096];
-    while bytes.len() <= MAX_TEXT_BYTES {
-        let count = match reader.read(&mut piece) {
-            Ok(count) => count,
-            Err(error) => return Err(Unread::System(error)),
-        };
-        if count == 0 {
-            return Ok(bytes);
-        }
-        if bytes.extend_from_slice(&piece[..count]).is_err() {
-            return Err(Unread::Script(ScriptFault::NoMemory));
-        }
+pub fn read_input<R: Read>(alloc: Global, reader: &mut R) -> Result<Vec<u8>, Unread>
+    ensures read { IfOk result (λ bytes. IfSome (R.remaining reader.old) (λ input. bytes.items ≡ input)) }
+    ensures few { IfOk result (λ bytes. length bytes.items ≤ max_text_bytes) }
+{
+    match read_whole(alloc, reader, MAX_TEXT_BYTES) {
+        Ok(bytes) => Ok(bytes),
+        Err(ReadFault::Failed(error)) => Err(Unread::System(error)),
+        Err(ReadFault::TooLarge) => Err(Unread::Script(ScriptFault::TooLarge)),
+        Err(ReadFault::NoMemory) => Err(Unread::Script(ScriptFault::NoMemory)),
     }
-    Err(Unread::Script(ScriptFault::TooLarge))
 }

@@ -1,8 +1,8 @@
-//! The exit statuses, and what is told beside them: those of `photofleet`.
+//! The exit statuses, and what is said beside them on the error output.
 ghost use Rattle.std.specs.Prelude.{◌≡◌};
 ghost use Rattle.script_programs.specs.Statuses.{status_of};
 
-use fleet_steps::RunError;
+use run_error::RunError;
 use std::io::Write;
 
 /// Done, or help was asked for.

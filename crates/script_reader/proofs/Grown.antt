@@ -69,7 +69,8 @@ lf_utf8 : IsUtf8 (10 ∷ [])
 unfolding encode
 lf_utf8 = (10 ∷ [], (refl, refl))
 
-utf8_more : (n : ℕ) (text line : List ℕ) → is_utf8 text ≡ true → IsUtf8 line → IsUtf8 (with_line n text line)
+-- and the text of a text and a line of characters has characters
+pub utf8_more : (n : ℕ) (text line : List ℕ) → is_utf8 text ≡ true → IsUtf8 line → IsUtf8 (with_line n text line)
 utf8_more zero text line was new = new
 utf8_more (suc n) text line was new = IsUtf8-append text (10 ∷ line) (IsUtf8-from_is_utf8 text was) (IsUtf8-append (10 ∷ []) line lf_utf8 new)
 

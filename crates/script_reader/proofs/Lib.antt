@@ -7,7 +7,7 @@ mod Cuts
 mod FilterTexts
 mod Gathered
 mod HasField
-mod Grown
+pub mod Grown
 mod Knowing
 mod MadeBy
 mod Moving

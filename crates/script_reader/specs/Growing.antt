@@ -1,5 +1,5 @@
 -- Scripts that grow by lines.
-use Rattle.std.specs.Prelude.{◌≡◌, ◌<◌, ◌≤◌, ℕ, zero, suc, true, List, [], ◌∷◌, ◌++◌, length, map, Option, Some, Result, Ok, Err}
+use Rattle.std.specs.Prelude.{◌≡◌, ◌<◌, ◌≤◌, ℕ, zero, suc, true, List, [], ◌∷◌, ◌++◌, length, map, Option, Some, None, Result, Ok, Err}
 use Rattle.std.specs.Str.{is_utf8}
 use Rattle.std.specs.Str.Lines.{strip_carriage_return}
 use Rattle.fleet_model.specs.Contents.{Contents, contents}
@@ -65,6 +65,14 @@ pub record GoesBack (text : List ℕ) (lines : ℕ) (g : GrowingScript) (last : 
 
 abbrev pub GoesBackTo : List ℕ → ℕ → GrowingScript → Type 0
 GoesBackTo text lines g = (last : Last) × (was : Reader) × GoesBack text lines g last was
+
+-- no line can be taken back
+abbrev pub HasNoneToTakeBack : GrowingScript → Type 0
+HasNoneToTakeBack g = g.last ≡ None
+
+-- what can be taken back is unchanged: the same line, or none
+abbrev pub TakesBackTheSame : GrowingScript → GrowingScript → Type 0
+TakesBackTheSame old new = new.last ≡ old.last
 
 -- Machinery of the proofs: what a line adds to a script, told by the numbers of commands and of devices
 pub record Grows (old new : Contents) : Type 0 where

@@ -1,8 +1,9 @@
-// The devices that each command works on.
+// The kind of each command, and the devices that it works on.
 ghost use Rattle.std.specs.Prelude.{◌≡◌};
 ghost use Rattle.fleet_model.specs.Contents.{devices_of};
+ghost use Rattle.fleet_model.specs.Tallies.{kind_of};
 
-use crate::Command;
+use crate::{Command, CommandKind};
 
 /// Gives the devices that a command works on, by their places in order of declaration: one, and for a pull or a preview a second.
 pub fn devices_of(command: &Command) -> (u16, Option<u16>)
@@ -22,5 +23,24 @@ pub fn devices_of(command: &Command) -> (u16, Option<u16>)
         Command::Pull { target, source } | Command::Preview { target, source } => {
             (*target, Some(*source))
         }
+    }
+}
+
+/// Whether a command changes a device, is a pull, or asks for a report.
+pub fn kind_of(command: &Command) -> CommandKind
+    ensures { result ≡ kind_of command.now }
+{
+    match command {
+        Command::New { .. }
+        | Command::Edit { .. }
+        | Command::Remove { .. }
+        | Command::Narrow { .. }
+        | Command::Refilter { .. } => CommandKind::Change,
+        Command::Pull { .. } => CommandKind::Pull,
+        Command::Preview { .. }
+        | Command::List { .. }
+        | Command::Conflicts { .. }
+        | Command::Knowledge { .. }
+        | Command::Knows { .. } => CommandKind::Question,
     }
 }

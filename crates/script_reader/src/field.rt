@@ -55,7 +55,7 @@ fn without_spaces(text: &str) -> &str
     rest
 }
 
-/// Tells whether a device may have that name.
+/// Whether a device may have that name: a letter from a to z, and then at most 15 such letters and digits.
 pub fn is_name(text: &str) -> bool
     ensures { result ≡ is_name text.now }
 {

@@ -4,7 +4,7 @@ ghost use Rattle.std.specs.List.{list_any};
 ghost use Rattle.fleet_model.specs.Contents.{Contents};
 ghost use Rattle.script_reader.specs.Limits.{max_text_bytes, max_line_bytes};
 ghost use Rattle.script_reader.specs.Lines.{fields_of, pieces_of};
-ghost use Rattle.script_reader.specs.Growing.{Adds, GoesBackTo, Grows, IsGrown, ReadsLine, script_in, with_line};
+ghost use Rattle.script_reader.specs.Growing.{Adds, GoesBackTo, Grows, HasNoneToTakeBack, IsGrown, ReadsLine, TakesBackTheSame, script_in, with_line};
 ghost use Rattle.script_reader.specs.Reading.{script_of, MayWantMemory};
 ghost use Rattle.script_reader.specs.declared.refusal.Refusal.TheVariants.{Memory};
 ghost use Rattle.script_reader.specs.declared.fault.ScriptFault.TheVariants.{NoMemory, Read};
@@ -51,6 +51,7 @@ impl GrowingScript {
     pub fn new(alloc: Global) -> GrowingScript
         ensures grown { IsGrown [] result }
         ensures lines { result.lines ≡ 0 }
+        ensures none { HasNoneToTakeBack result }
     {
         GrowingScript {
             reader: Reader::new(alloc),
@@ -66,6 +67,7 @@ impl GrowingScript {
     pub fn of(alloc: Global, text: &[u8]) -> Result<GrowingScript, ScriptFault>
         ensures grown { IfOk result (IsGrown text.now) }
         ensures lines { IfOk result (λ script. script.lines ≡ length (pieces_of text.now)) }
+        ensures none { IfOk result HasNoneToTakeBack }
         ensures refused { IfErr result (λ fault. fault ≢ NoMemory → script_of text.now ≡ Err fault) }
         ensures no_memory { result ≡ Err NoMemory → MayWantMemory text.now }
         ensures no_read { result ≢ Err Read }
@@ -109,6 +111,8 @@ impl GrowingScript {
             → result ≡ Err NoMemory → MayWantMemory (with_line self.old.lines text line.now) }
         ensures kept { OnErr result ((text : List ℕ) → IsGrown text self.old → IsGrown text self.new) }
         ensures lines { OnErr result (self.new.lines ≡ self.old.lines) }
+        ensures last { OnErr result (TakesBackTheSame self.old self.new) }
+        ensures still_back { OnErr result ((text : List ℕ) (lines : ℕ) → GoesBackTo text lines self.old → GoesBackTo text lines self.new) }
         ensures no_read { result ≢ Err Read }
     {
         let bytes = self.bytes_with(line);
@@ -139,7 +143,9 @@ impl GrowingScript {
     /// Removes the last line, so the script is what it was before that line. It takes no memory. It does nothing if no line was
     /// appended since a line was last removed, or since the script was read from a text.
     pub fn take_back(&mut self)
-        ensures { (text : List ℕ) (lines : ℕ) → GoesBackTo text lines self.old → IsGrown text self.new × (self.new.lines ≡ lines) }
+        ensures back { (text : List ℕ) (lines : ℕ) → GoesBackTo text lines self.old → IsGrown text self.new × (self.new.lines ≡ lines) }
+        ensures once { HasNoneToTakeBack self.new }
+        ensures none { HasNoneToTakeBack self.old → self.new ≡ self.old }
     {
         let Some(last) = self.last else {
             return;
@@ -193,6 +199,7 @@ fn read_text(alloc: Global, text: &str) -> Result<GrowingScript, ScriptFault>
     requires { length text.now ≤ max_text_bytes }
     ensures grown { IfOk result (IsGrown text.now) }
     ensures lines { IfOk result (λ script. script.lines ≡ length (pieces_of text.now)) }
+    ensures none { IfOk result HasNoneToTakeBack }
     ensures refused { IfErr result (λ fault. fault ≢ NoMemory → script_of text.now ≡ Err fault) }
     ensures no_memory { result ≡ Err NoMemory → MayWantMemory text.now }
     ensures no_read { result ≢ Err Read }

@@ -1,8 +1,9 @@
 // Reads a script line by line.
-ghost use Rattle.std.specs.Prelude.{◌≡◌, ◌≢◌, ℕ, List, [], ◌∷◌, ◌<◌, ◌≤◌, length, map, codes, Ok, Err, IfOk, IfErr, IfSome, OnOk, OnErr, true};
+ghost use Rattle.std.specs.Prelude.{◌≡◌, ◌≢◌, ℕ, List, [], ◌∷◌, ◌<◌, ◌≤◌, length, map, codes, None, Ok, Err, IfOk, IfErr, IfSome, OnOk, OnErr, true};
 ghost use Rattle.script_reader.specs.Lines.{fields_of, lines_of, pieces_of, third_field_on};
 ghost use Rattle.script_reader.specs.Limits.{max_text_bytes, max_line_bytes};
 ghost use Rattle.std.specs.Str.Lines.{strip_carriage_return};
+ghost use Rattle.photo_record.specs.Reading.{rating_of_text, day_of_text};
 ghost use Rattle.photo_filter_rules.specs.Matching.{IsInRange};
 ghost use Rattle.script_reader.specs.Steps.{Gives};
 ghost use Rattle.script_reader.specs.Saying.{device_said, new_picture_said, record_said, picture_said, author_said, version_said};
@@ -13,6 +14,7 @@ ghost use Rattle.script_reader.specs.Saying.{declaration_said, creation_said, ed
 ghost use Rattle.script_reader.specs.Saying.{question_line_said, command_line_said, command_said, fields_said, said};
 ghost use Rattle.script_reader.specs.Reading.{script_of, script_of_lines, MayWantMemory};
 ghost use Rattle.script_reader.specs.declared.fault.ScriptFault.TheVariants.{NoMemory, Read};
+ghost use Rattle.script_reader.specs.declared.refusal.Refusal.TheVariants.{Memory};
 
 use crate::field::{
     cut_at_colon, cut_at_dot, epoch_of, filter_of, is_name, picture_of, put_fields, third_field_on,
@@ -576,8 +578,14 @@ fn any_picture(text: &str) -> Result<PicNo, LineFault>
 
 // Reads a record, whose set of words is shared with earlier lines.
 #[tactic(auto, unfolding(crate::specs::Saying::record_said))]
-fn record_of(sets: &mut WordSets, rating: &str, date: &str, words: &str) -> Result<Record, Refusal>
+pub(crate) fn record_of(
+    sets: &mut WordSets,
+    rating: &str,
+    date: &str,
+    words: &str,
+) -> Result<Record, Refusal>
     ensures said { Gives (λ r. r) result (record_said rating.now date.now words.now) }
+    ensures memory { result ≡ Err Memory → (rating_of_text rating.now ≢ None) × (day_of_text date.now ≢ None) }
     ensures in_range { IfOk result IsInRange }
 {
     let rating = Rating::read(rating).ok_or(LineFault::BadRating)?;

@@ -5,16 +5,18 @@ ghost use Rattle.script_reader.specs.Steps.{fault_at};
 use crate::{LineFault, ScriptFault};
 use std::alloc::{AllocError, AllocFailed};
 
-/// Why reading stops in a line: the line has a fault, or memory was refused.
+/// Why reading stops in a line or a field.
 #[derive(Clone, Copy, Debug, PartialEq, Eq, Drop)]
 pub enum Refusal {
+    /// Memory was refused.
     Memory,
+    /// The line or the field has this fault.
     Fault(LineFault),
 }
 
 impl Refusal {
     /// Gives the fault of a script whose reading stops in the line of that number.
-    pub fn in_line(self, line: u32) -> ScriptFault
+    pub(crate) fn in_line(self, line: u32) -> ScriptFault
         ensures { result ≡ fault_at line self }
     {
         match self {

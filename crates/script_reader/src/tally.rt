@@ -3,7 +3,7 @@ ghost use Rattle.std.specs.Prelude.{◌≡◌, ◌≤◌, length};
 ghost use Rattle.fleet_model.specs.Limits.{max_commands};
 ghost use Rattle.fleet_model.specs.Tallies.{tally_of_commands};
 
-use crate::{Command, Tally};
+use crate::{Command, CommandKind, Tally, kind_of};
 
 // Counts the commands of each kind.
 pub(crate) fn tally_of(commands: &[Command]) -> Tally
@@ -16,18 +16,10 @@ pub(crate) fn tally_of(commands: &[Command]) -> Tally
         reports: 0,
     };
     for command in commands {
-        match command {
-            Command::New { .. }
-            | Command::Edit { .. }
-            | Command::Remove { .. }
-            | Command::Narrow { .. }
-            | Command::Refilter { .. } => tally.changes += 1,
-            Command::Pull { .. } => tally.pulls += 1,
-            Command::Preview { .. }
-            | Command::List { .. }
-            | Command::Conflicts { .. }
-            | Command::Knowledge { .. }
-            | Command::Knows { .. } => tally.reports += 1,
+        match kind_of(command) {
+            CommandKind::Change => tally.changes += 1,
+            CommandKind::Pull => tally.pulls += 1,
+            CommandKind::Question => tally.reports += 1,
         }
     }
     tally

@@ -2,7 +2,7 @@
 use crate::standing::{Standing, standing_of};
 use live_fleet::Fleet;
 use photo_device::{Device, Held, Place};
-use photo_script::{Command, Script, devices_of};
+use photo_script::{Command, CommandKind, Script, devices_of, kind_of};
 use std::alloc::{AllocError, Global};
 
 /// What happened to a version on a device.
@@ -73,15 +73,7 @@ pub struct Happened<'a> {
 
 /// Whether the command can change its devices.
 pub fn is_change(command: &Command) -> bool {
-    matches!(
-        command,
-        Command::New { .. }
-            | Command::Edit { .. }
-            | Command::Remove { .. }
-            | Command::Pull { .. }
-            | Command::Narrow { .. }
-            | Command::Refilter { .. }
-    )
+    kind_of(command) != CommandKind::Question
 }
 
 /// Copies of the devices that the command may change, the source of a pull behind its target.
@@ -209,23 +201,23 @@ fn what_happened(log: &[Held], seen: &Seen<'_>, held: &Held) -> Option<Happening
     let was = standing_of(seen.was, held.picture, held.version);
     let is = standing_of(seen.is, held.picture, held.version);
     match (was, is) {
-        (Standing::Known | Standing::Unheard, Standing::Stored) => {
+        (Standing::Known | Standing::Unknown, Standing::Stored) => {
             Some(arrival(seen, held, Place::Store))
         }
-        (Standing::Known | Standing::Unheard, Standing::Waiting) => {
+        (Standing::Known | Standing::Unknown, Standing::Waiting) => {
             Some(arrival(seen, held, Place::Out))
         }
-        (Standing::Stored | Standing::Waiting, Standing::Known | Standing::Unheard) => {
+        (Standing::Stored | Standing::Waiting, Standing::Known | Standing::Unknown) => {
             Some(leaving(seen))
         }
         (Standing::Waiting, Standing::Stored) => Some(Happening::Moved(Place::Store)),
         (Standing::Stored, Standing::Waiting) => Some(Happening::Moved(Place::Out)),
-        (Standing::Unheard, Standing::Known) => Some(hearing(log, seen, held)),
-        (Standing::Known, Standing::Unheard) => Some(Happening::Forgotten),
+        (Standing::Unknown, Standing::Known) => Some(hearing(log, seen, held)),
+        (Standing::Known, Standing::Unknown) => Some(Happening::Forgotten),
         (Standing::Stored, Standing::Stored)
         | (Standing::Waiting, Standing::Waiting)
         | (Standing::Known, Standing::Known)
-        | (Standing::Unheard, Standing::Unheard) => None,
+        | (Standing::Unknown, Standing::Unknown) => None,
     }
 }
 

@@ -3,8 +3,8 @@ ghost use Rattle.std.specs.Prelude.{◌≤◌, ◌<◌, length};
 
 use crate::names::{device_name, push_version};
 use crate::whereabouts::is_asked;
-use live_fleet::Fleet;
-use photo_device::{Device, Place, SharedHeld};
+use live_fleet::{Fleet, pull_moves};
+use photo_device::{Place, SharedHeld};
 use photo_script::Script;
 use std::alloc::{AllocError, Global};
 
@@ -80,15 +80,15 @@ fn push_pull(
     requires source { devices.1 < length fleet.now.devices }
 {
     let (target, source) = devices;
-    let mut moved = String::new(alloc);
-    let counts = push_moved(
-        &mut moved,
-        script,
+    let moves = pull_moves(
+        alloc,
         &fleet.devices()[usize::from(target)],
         &fleet.devices()[usize::from(source)],
-        pictures,
     )?;
-    push_line(lines, script, devices, &moved, counts)
+    let mut moved = String::new(alloc);
+    let taken = push_asked(&mut moved, script, &moves.taken, Place::Store, pictures)?;
+    let handed = push_asked(&mut moved, script, &moves.handed, Place::Out, pictures)?;
+    push_line(lines, script, devices, &moved, (taken, handed))
 }
 
 fn push_line(
@@ -112,65 +112,37 @@ fn push_line(
     )
 }
 
-/// What a pull would bring of the pictures that are asked for: what the target doesn't know of the source's store and is to
-/// keep, and what it doesn't know of the source's out. Gives how many versions these are.
-pub fn push_moved(
+// The versions of the pictures that are asked for, and how many they are.
+fn push_asked(
     moved: &mut String,
     script: &Script,
-    target: &Device,
-    source: &Device,
-    pictures: &[u32],
-) -> Result<(usize, usize), AllocError> {
-    let taken = push_moved_from(moved, script, target, source, Place::Store, pictures)?;
-    let handed = push_moved_from(moved, script, target, source, Place::Out, pictures)?;
-    Ok((taken, handed))
-}
-
-fn push_moved_from(
-    moved: &mut String,
-    script: &Script,
-    target: &Device,
-    source: &Device,
+    versions: &[SharedHeld],
     place: Place,
     pictures: &[u32],
 ) -> Result<usize, AllocError> {
-    let set = match place {
-        Place::Store => source.store(),
-        Place::Out => source.out(),
-    };
-    let unknown = target.unknown_by(*moved.allocator(), set)?;
-    push_list(moved, script, target, &unknown, place, pictures)
-}
-
-fn push_list(
-    moved: &mut String,
-    script: &Script,
-    target: &Device,
-    unknown: &[SharedHeld],
-    place: Place,
-    pictures: &[u32],
-) -> Result<usize, AllocError> {
-    let (before, behind) = match place {
-        Place::Store => (" ", ""),
-        Place::Out => (" [", "]"),
-    };
     let mut count = 0usize;
-    for held in unknown {
-        let picture = held.picture().value();
-        if is_asked(pictures, picture) && is_wanted(target, held, place) {
-            write!(moved, "{before}{picture} ")?;
-            push_version(moved, script, held.version())?;
-            moved.push_str(behind)?;
+    for held in versions {
+        if is_asked(pictures, held.picture().value()) {
+            push_moved(moved, script, held, place)?;
             count = count.saturating_add(1);
         }
     }
     Ok(count)
 }
 
-// Whether a device takes a version that it doesn't know. It takes each that waits in an out.
-fn is_wanted(target: &Device, held: &SharedHeld, place: Place) -> bool {
-    match place {
-        Place::Store => target.filter().matches(held.content()),
-        Place::Out => true,
-    }
+/// Appends a space, and a version with its picture before it: in brackets, if it comes from an out.
+pub fn push_moved(
+    text: &mut String,
+    script: &Script,
+    held: &SharedHeld,
+    place: Place,
+) -> Result<(), AllocError> {
+    let (before, after) = match place {
+        Place::Store => (" ", ""),
+        Place::Out => (" [", "]"),
+    };
+    let picture = held.picture();
+    write!(text, "{before}{picture} ")?;
+    push_version(text, script, held.version())?;
+    text.push_str(after)
 }

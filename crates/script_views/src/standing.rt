@@ -15,8 +15,8 @@ pub enum Standing {
     Waiting,
     /// It is known and not held.
     Known,
-    /// It was never heard of.
-    Unheard,
+    /// The device doesn't know it.
+    Unknown,
 }
 
 /// How the device stands to that version of that picture.
@@ -30,6 +30,6 @@ pub fn standing_of(device: &Device, picture: PicNo, version: Version) -> Standin
     } else if device.knowledge().knows(picture, version) {
         Standing::Known
     } else {
-        Standing::Unheard
+        Standing::Unknown
     }
 }

@@ -264,7 +264,7 @@ fn add_lacking(
 // Why a device lacks a current version. What it knows of it and doesn't hold its filter doesn't select, since it is sound.
 fn push_why(text: &mut String, device: &Device, held: &Held) -> Result<(), AllocError> {
     match standing_of(device, held.picture, held.version) {
-        Standing::Unheard => text.push_str("never heard of it"),
+        Standing::Unknown => text.push_str("doesn't know of it"),
         _ => push_unselected(text, device, held),
     }
 }

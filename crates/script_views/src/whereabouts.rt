@@ -16,7 +16,7 @@ use std::collections::BTreeMap;
 
 // What the marks of a cell mean.
 const LEGEND: &str =
-    "\nV in the store, [V] in the out, ~V only known, -V never heard of; V* superseded\n";
+    "\nV in the store, [V] in the out, ~V only known, -V not known; V* superseded\n";
 
 // What stands above the conflicts.
 const CONFLICTS: &str = "\nconflicts, which an edit on a device that has all of them resolves:\n";
@@ -281,8 +281,8 @@ fn marks(standing: Standing, is_current: bool) -> Option<(&'static str, &'static
         (Standing::Waiting, true) => Some(("[", "]")),
         (Standing::Waiting, false) => Some(("[", "]*")),
         (Standing::Known, true) => Some(("~", "")),
-        (Standing::Unheard, true) => Some(("-", "")),
-        (Standing::Known | Standing::Unheard, false) => None,
+        (Standing::Unknown, true) => Some(("-", "")),
+        (Standing::Known | Standing::Unknown, false) => None,
     }
 }
 

@@ -62,9 +62,9 @@ function touchingOf(picture) {
 // After which command, which picture is followed (null: none), and which lists are unfolded.
 let at = 0, followed = null;
 const unfolded = new Set();
-// The devices whose drawing is stale, those where only what they never heard of is, and those in sight, of which alone many are
+// The devices whose drawing is stale, those where only what they don't know of is, and those in sight, of which alone many are
 // drawn.
-const stale = new Set(run.devices.keys()), staleUnheard = new Set(), inSight = new Set();
+const stale = new Set(run.devices.keys()), staleUnknown = new Set(), inSight = new Set();
 const isMany = run.devices.length >= MANY;
 
 function pictureButton(picture) {
@@ -148,18 +148,18 @@ function knowledgeOf(device, redraw) {
   return box;
 }
 
-// Draws the current versions that a device never heard of.
-function drawUnheard(place) {
-  const box = byId("fleet").children[place].querySelector(".never"), key = place + "unheard", unheard = [];
-  for (const versions of current.values()) unheard.push(...versions.filter(version => !isKnown(fleet[place], version)));
+// Draws the current versions that a device doesn't know of.
+function drawUnknown(place) {
+  const box = byId("fleet").children[place].querySelector(".never"), key = place + "unknown", unknown = [];
+  for (const versions of current.values()) unknown.push(...versions.filter(version => !isKnown(fleet[place], version)));
   box.replaceChildren();
-  staleUnheard.delete(place);
-  if (!unheard.length) return;
-  const names = element("div", "unheard");
-  const shown = firstOf(unheard, unfolded.has(key) ? Infinity : NAMES, inOrder);
+  staleUnknown.delete(place);
+  if (!unknown.length) return;
+  const names = element("div", "unknown");
+  const shown = firstOf(unknown, unfolded.has(key) ? Infinity : NAMES, inOrder);
   shown.forEach((version, at) => names.append(at ? ", " : "", pictureButton(pictureOf(version)), " " + versionName(version)));
-  if (shown.length < unheard.length) names.append(" ", unfolder(key, unheard.length, () => drawUnheard(place)));
-  box.append(element("h3", "", "never heard of (" + unheard.length + ")"), names);
+  if (shown.length < unknown.length) names.append(" ", unfolder(key, unknown.length, () => drawUnknown(place)));
+  box.append(element("h3", "", "doesn't know of (" + unknown.length + ")"), names);
 }
 
 // Draws a device, with what the command changed on it.
@@ -176,7 +176,7 @@ function drawDevice(place) {
   if (torn.size) box.append(element("div", "torn", "in conflict: picture " + [...torn].sort((a, b) => a - b).join(", ")));
   for (const part of ["store", "out"]) box.append(partOf(part, device, changes, whys, torn, redraw));
   box.append(knowledgeOf(device, redraw), element("div", "never"));
-  drawUnheard(place);
+  drawUnknown(place);
   stale.delete(place);
 }
 
@@ -241,7 +241,7 @@ function drawBegun(moved, command) {
 // Draws the devices that are stale, of many only those in sight.
 function drawFleet() {
   for (const place of [...stale]) if (!isMany || inSight.has(place)) drawDevice(place);
-  for (const place of [...staleUnheard]) if (!stale.has(place) && (!isMany || inSight.has(place))) drawUnheard(place);
+  for (const place of [...staleUnknown]) if (!stale.has(place) && (!isMany || inSight.has(place))) drawUnknown(place);
 }
 
 function drawActing(command) {

@@ -8,7 +8,7 @@ const STANDINGS = [
   [() => "in the store", (device, version) => device.store.has(version)],
   [() => "in the out", (device, version) => device.out.has(version)],
   [version => "known, not held, since " + whyUnselected(version), (device, version) => isKnown(device, version) && !holds(device, version)],
-  [() => "never heard of it", (device, version) => !isKnown(device, version)],
+  [() => "doesn't know of it", (device, version) => !isKnown(device, version)],
 ];
 const holds = (device, version) => device.store.has(version) || device.out.has(version);
 

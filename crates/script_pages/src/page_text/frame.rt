@@ -52,7 +52,7 @@ tr.left .what{text-decoration:line-through}
 .torn{color:var(--amber);font-weight:700}
 .link{background:none;border:0;padding:0;color:var(--blue);text-decoration:underline dotted;text-align:left}
 .soft{color:var(--soft);font-size:13px}
-.unheard{font-size:13px}
+.unknown{font-size:13px}
 .more{font-size:12px;padding:0 8px;margin:2px 0}
 #story{display:grid;grid-template-columns:repeat(auto-fit,minmax(min(340px,100%),1fr));gap:4px 24px;padding:8px 16px;border-bottom:1px solid var(--line)}
 #story>h2{grid-column:1/-1}

@@ -158,7 +158,7 @@ function undoLast() {
 function goTo(number) {
   const touch = () => {
     for (const change of undone[undone.length - 1] || []) {
-      if (change.picture) fleet.forEach(device => staleUnheard.add(device.place));
+      if (change.picture) fleet.forEach(device => staleUnknown.add(device.place));
       else stale.add(change.place);
     }
   };

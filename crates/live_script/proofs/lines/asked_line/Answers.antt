@@ -4,7 +4,7 @@ use Rattle.live_script.proofs.lines.asked_line.Goals as goal
 pub returns-in-Ok-told-clause-live : goal.returns-in-Ok-told-clause-live
 returns-in-Ok-told-clause-live c =
     let live = c.requires.live in let text = c.args.source.now in
-    let went = c.take_back.ensures text c.args.script.now.lines (c.in-Ok.ensures.back text live.grown) in
+    let went = c.take_back.ensures.back text c.args.script.now.lines (c.in-Ok.ensures.back text live.grown) in
     let behind = comes_behind text c.in-Ok.said c.args.script.now c.push.new.self c.args.fleet.now c.script.result.now live (c.in-Ok.ensures.said text live.grown) c.script.ensures in
     back_live text c.args.script.now c.take_back.new.self c.args.fleet.now c.ask_line-told.new.fleet live went.0 went.1 (c.ask_line-told.ensures.kept behind)
 
@@ -18,6 +18,6 @@ returns-in-Ok-told-clause-told c =
 pub returns-in-Err-told-clause-live : goal.returns-in-Err-told-clause-live
 returns-in-Err-told-clause-live c =
     let live = c.requires.live in let text = c.args.source.now in
-    let went = c.take_back.ensures text c.args.script.now.lines (c.in-Ok.ensures.back text live.grown) in
+    let went = c.take_back.ensures.back text c.args.script.now.lines (c.in-Ok.ensures.back text live.grown) in
     let behind = comes_behind text c.in-Ok.said c.args.script.now c.push.new.self c.args.fleet.now c.script.result.now live (c.in-Ok.ensures.said text live.grown) c.script.ensures in
     back_live text c.args.script.now c.take_back.new.self c.args.fleet.now c.ask_line-told.new.fleet live went.0 went.1 (c.ask_line-told.ensures.kept behind)

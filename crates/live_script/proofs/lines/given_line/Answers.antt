@@ -5,13 +5,20 @@ use Rattle.live_script.specs.Live.{IsLive, with_line}
 use Rattle.live_script.proofs.Behind.{back_live, comes_behind, grown_line, some_lines, taken_live, told_text}
 use Rattle.live_script.proofs.lines.given_line.Goals as goal
 
+pub returns-then-is_err-clause-live : goal.returns-then-is_err-clause-live
+returns-then-is_err-clause-live c =
+    let live = c.requires.live in let text = c.args.source.now.items in
+    let went = c.take_back.ensures.back text c.args.script.now.lines (c.in-Ok.ensures.back text live.grown) in
+    subst (λ t. IsLive t c.take_back.new.self c.args.fleet.now) (sym c.reserve.ensures.items)
+    (back_live text c.args.script.now c.take_back.new.self c.args.fleet.now c.args.fleet.now live went.0 went.1 live.shown)
+
 pub returns-then-not-told-clause-live : goal.returns-then-not-told-clause-live
 returns-then-not-told-clause-live c =
     let live = c.requires.live in let text = c.args.source.now.items in
     let behind = comes_behind text c.in-Ok.said c.args.script.now c.push.new.self c.args.fleet.now c.script.result.now live (c.in-Ok.ensures.said text live.grown) c.script.ensures in
-    let went = c.take_back.ensures text c.args.script.now.lines (c.in-Ok.ensures.back text live.grown) in
-    subst (λ t. IsLive t c.take_back.new.self c.run_line.new.fleet) (sym c.reserve.ensures.items)
-    (back_live text c.args.script.now c.take_back.new.self c.args.fleet.now c.run_line.new.fleet live went.0 went.1 (OnFalse_at (not-true _ c.if-not-told.true) c.in-Ok-run_line.ensures.left behind))
+    let went = c.take_back-then-not-told.ensures.back text c.args.script.now.lines (c.in-Ok.ensures.back text live.grown) in
+    subst (λ t. IsLive t c.take_back-then-not-told.new.self c.run_line.new.fleet) (sym c.reserve.ensures.items)
+    (back_live text c.args.script.now c.take_back-then-not-told.new.self c.args.fleet.now c.run_line.new.fleet live went.0 went.1 (OnFalse_at (not-true _ c.if-not-told.true) c.in-Ok-run_line.ensures.left behind))
 
 pub returns-then-not-told-clause-told : goal.returns-then-not-told-clause-told
 returns-then-not-told-clause-told c =
@@ -40,6 +47,6 @@ pub returns-in-Err-run_line-clause-live : goal.returns-in-Err-run_line-clause-li
 returns-in-Err-run_line-clause-live c =
     let live = c.requires.live in let text = c.args.source.now.items in
     let behind = comes_behind text c.in-Ok.said c.args.script.now c.push.new.self c.args.fleet.now c.script.result.now live (c.in-Ok.ensures.said text live.grown) c.script.ensures in
-    let went = c.take_back-in-Err-run_line.ensures text c.args.script.now.lines (c.in-Ok.ensures.back text live.grown) in
+    let went = c.take_back-in-Err-run_line.ensures.back text c.args.script.now.lines (c.in-Ok.ensures.back text live.grown) in
     subst (λ t. IsLive t c.take_back-in-Err-run_line.new.self c.run_line.new.fleet) (sym c.reserve.ensures.items)
     (back_live text c.args.script.now c.take_back-in-Err-run_line.new.self c.args.fleet.now c.run_line.new.fleet live went.0 went.1 (c.in-Err-run_line.ensures.kept behind))

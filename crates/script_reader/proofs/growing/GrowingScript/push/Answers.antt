@@ -1,12 +1,14 @@
-use Rattle.std.proofs.Common.{◌≡◌, ◌≢◌, ◌≤◌, [], length, suc, Ok, Err, refl, sym, ap, subst, ◌∙◌, arith}
+use Rattle.std.proofs.Common.{◌≡◌, ◌≢◌, ◌≤◌, ℕ, List, [], length, take, suc, Bool, false, cond, eqb, Option, Some, None, Ok, Err, refl, sym, ap, subst, ◌∙◌, arith}
 use Rattle.std.specs.Str.Lines.{strip_carriage_return}
 use Rattle.fleet_model.specs.Contents.{Contents}
 use Rattle.script_reader.specs.Limits.{max_text_bytes, max_line_bytes}
 use Rattle.script_reader.specs.Lines.{fields_of}
 use Rattle.script_reader.specs.Saying.{said}
-use Rattle.script_reader.specs.Steps.{Leads, Refuses, fault_at, seen}
-use Rattle.script_reader.specs.Growing.{Adds, Grows, ReadsLine, with_line}
+use Rattle.script_reader.specs.Steps.{IsAsItWas, Leads, Refuses, fault_at, seen, without}
+use Rattle.script_reader.specs.Growing.{Adds, GoesBackTo, Grows, ReadsLine, with_line}
 use Rattle.script_reader.specs.declared.fault.ScriptFault.TheVariants.{NoMemory}
+use Rattle.script_reader.specs.declared.growing.GrowingScript.{GrowingScript}
+use Rattle.script_reader.specs.declared.reader.Reader.{Reader}
 use Rattle.script_reader.proofs.Grown.{few_lines, refused_more, taken_more, utf8_line, wants_more}
 use Rattle.script_reader.proofs.MadeBy.{grows, leads}
 use Rattle.script_reader.proofs.Whole.{script_of-large, script_of-not_utf8}
@@ -90,3 +92,33 @@ returns-in-Err-clause-no_memory c = λ text h e.
     (λ m. subst (λ l. length l ≤ max_line_bytes) end (c.in-Err.ensures.memory (ap Err m)))
     (λ m. subst (λ l. fields_of l ≢ []) end (c.in-Err.ensures.has_field (ap Err m)))
     (sym is ∙ wants)
+
+without_same : (made : Option ℕ) (was now : ℕ → Bool) → ((p : ℕ) → now p ≡ was p) → (p : ℕ) → without made was p ≡ without made now p
+without_same None was now same p = sym (same p)
+without_same (Some made) was now same p = ap (λ b. cond (eqb made p) false b) (sym (same p))
+
+-- the line that led to a reader leads to one that is as it was
+leads_same : (was old new : Reader) (devices commands : ℕ) (made : Option ℕ) → IsAsItWas old new → Leads was devices commands made old → Leads was devices commands made new
+leads_same was old new devices commands made same h = record {
+  names = h.names ∙ ap (λ (s : Contents). take devices s.names) (sym same.0);
+  filters = h.filters ∙ ap (λ (s : Contents). take devices s.filters) (sym same.0);
+  commands_are = h.commands_are ∙ ap (λ (s : Contents). take commands s.commands) (sym same.0);
+  makes = λ p. h.makes p ∙ without_same made _ _ same.1 p;
+  late = λ some. let h' = h.late some in (ap (λ (s : Contents). s.names) same.0 ∙ h'.0, ap (λ (s : Contents). s.filters) same.0 ∙ h'.1);
+}
+
+-- so a script goes back as before if only its reader's cache has changed
+goes_back_same : (old new : GrowingScript) → new.last ≡ old.last → new.lines ≡ old.lines → IsAsItWas old.reader new.reader → (text : List ℕ) (lines : ℕ) → GoesBackTo text lines old → GoesBackTo text lines new
+goes_back_same old new last lines same text n back = (
+  back.0,
+  back.1,
+  record {
+    kept = last ∙ back.2.kept;
+    one_more = lines ∙ back.2.one_more;
+    grown = back.2.grown;
+    leads = leads_same back.1 old.reader new.reader _ _ _ same back.2.leads;
+  },
+)
+
+pub returns-in-Err-clause-still_back : goal.returns-in-Err-clause-still_back
+returns-in-Err-clause-still_back c = goes_back_same c.args.self.now _ refl refl c.in-Err.ensures.reads.1

@@ -1,7 +1,7 @@
 use Rattle.std.proofs.Common.{◌+◌, ◌≤◌, length, take, arith}
 use Rattle.std.proofs.lemmas.List.{length-take}
-use Rattle.fleet_runner.proofs.Known.{taken_more}
-use Rattle.fleet_runner.proofs.source.read_bytes.Goals as goal
+use Rattle.bounded_read.proofs.Taking.{taken_more}
+use Rattle.bounded_read.proofs.whole.read_whole.Goals as goal
 
 pub returns-then-is_err-clause-taken : goal.returns-then-is_err-clause-taken
 returns-then-is_err-clause-taken g c =
@@ -9,5 +9,5 @@ returns-then-is_err-clause-taken g c =
     let piece = take c.in-Ok.count c.read.new.buf in
     let cut = length-take c.in-Ok.count c.read.new.buf in
     let room = length-take c.min-room.result c.loop-piece.piece in
-    let few : length bytes + length piece ≤ 8_388_609 = omega (arith, cut, room) in
+    let few : length bytes + length piece ≤ c.args.most + 1 = omega (arith, cut, room) in
     taken_more _ (g.R.Read.remaining c.loop-piece.reader) _ bytes piece _ c.loop-piece.invariant.read c.in-Ok.ensures.bytes.0 few

@@ -1,0 +1,6 @@
+//! Why a program's run of a script fails: what can go wrong between a reader's bytes and a writer's.
+#![tactic(auto)]
+
+mod error;
+
+pub use error::RunError;
