@@ -12,7 +12,7 @@ use Rattle.photo_model.specs.declared.place.Place.{Place}
 use Rattle.photo_device.specs.Held.{count_of}
 use Rattle.photo_device.specs.Device.{Kept, held_at}
 
--- of its author, the history of a held version has exactly the earlier versions
+-- of the held version's own author, its history has exactly the earlier versions
 pub record HasEarlier (held : Held) : Type 0 where
   pub own : (n : ℕ) → denotes held.made_with (version held.version.author n) ≡ (nat_le 1 n && nat_lt n held.version.number)
 

@@ -1,8 +1,8 @@
 //! A device of the household: the versions that it made and holds, and what it knows.
 //!
 //! Its invariant is `IsDevice`. **A device knows all that it holds, with its history; of its own author it knows
-//! exactly what it made.** It knows nothing of its own later epochs. It holds no version twice. The history of a held
-//! version has exactly the earlier versions of its author.
+//! exactly what it made.** It knows nothing of its own later epochs. It holds no version twice. Of the held version's own
+//! author, its history has exactly the earlier versions.
 #![tactic(auto)]
 
 mod cached_knowledge;

@@ -33,7 +33,7 @@ pub record IsSomething (t s : Kept) : Type 0 where
   pub ready : AreReady t s
   pub some : (list_any (is_new t.knowledge) (s.store ++ s.out) || (list_any (is_dropped t s) t.store || list_any (is_over t s) t.out)) ≡ true
 
--- a pull may want memory: something is to be moved, told, dropped or learned
+-- a pull may want memory: the source holds a version that the target doesn't know, or something is to be dropped or learned
 abbrev pub HasToPull : Kept → Kept → Type 0
 HasToPull t s = (tm sm : ModelDevice) → Shows t tm → Shows s sm → is_up_to_date tm sm ≡ true → IsTaughtNothing tm sm → ⊥
 

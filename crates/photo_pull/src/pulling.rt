@@ -15,10 +15,12 @@ use std::alloc::{AllocError, Global};
 
 /// Pulls from the source to the target. The target takes the versions that it doesn't know and that its filter matches,
 /// and all unknown versions of the source's out. It learns these with their history and, if the source's filter covers
-/// its own, all that the source knows. It drops held versions that are superseded, and those that the source gave up.
+/// its own, all that the source knows. It drops each held version that one of the new versions supersedes, a noticed one
+/// among them. If the source's filter covers its own, it also drops from its store what the source knows and doesn't store.
 ///
-/// The only error is refused memory, which leaves both devices as they were. No memory is wanted where nothing is to be
-/// moved, told, dropped or learned. Nothing is staged on either device after any result.
+/// The only error is refused memory, which leaves both devices as they were. No memory is wanted where the target knows all
+/// that the source holds, has nothing to drop, and would learn nothing. An unknown version of the source may want memory even
+/// where the target's filter leaves it out and nothing moves. Nothing is staged on either device after any result.
 ///
 /// Whatever may want memory comes before either device changes. The change is staged on the target, the handed versions
 /// leave the source's out, and the target commits the change with them.

@@ -18,8 +18,9 @@ use std::alloc::{AllocError, Global};
 
 /// The text of a script, which reads as that script: a line for each device and one for each command, each ended by LF. `None`
 /// means that a limit of scripts keeps the text from being read so (`IsPrintable`): a name that no line can declare; a line of
-/// over 1,024 bytes; a text of over 8,388,608 bytes; a filter that is too long or too high with all its brackets; a picture
-/// that two commands make; the one word `-`; or a version number or epoch over 100,000. Its only error is want of memory.
+/// over 1,024 bytes; a text of over 8,388,608 bytes; a filter that is too high, or too long with all its brackets; a picture
+/// that two commands make; a record that says `removed`, or has the one word `-`; a version of no device of the script, with
+/// the number 0, or with a number or an epoch over 100,000. Its only error is want of memory.
 pub fn script_text(alloc: Global, script: &Script) -> Result<Option<String>, AllocError>
     ensures text { IfOk result (λ answer. IfSome answer (λ text. string_bytes text ≡ text_of_script script.now)) }
     ensures read { IfOk result (λ answer. IfSome answer (λ text. script_of (string_bytes text) ≡ Ok script.now)) }

@@ -1,6 +1,7 @@
 //! Tests of sessions, which pass each of their calls to a fleet; of questions to a fleet; and of running a script's commands by
 //! number.
 mod asking;
+mod many;
 mod numbers;
 mod working;
 
@@ -213,4 +214,11 @@ fn runs_of_sessions(rt: HostRuntime) {
 #[test]
 fn the_commands_of_a_script_run_by_number(rt: HostRuntime) {
     assert!(rt; numbers::runs_script(rt.alloc()));
+}
+
+#[test]
+fn as_many_devices_as_there_may_be(rt: HostRuntime) {
+    for (count, refused) in many::LIMITS {
+        assert!(rt; many::opens(rt.alloc(), *count, *refused), "{count}");
+    }
 }

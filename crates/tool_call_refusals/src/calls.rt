@@ -1,6 +1,7 @@
 //! Calls by their names.
 use crate::{
-    devices, fleets, gates, growing, live, pulls, questions, runs, scripts, sessions, streams,
+    devices, fields, fleets, gates, growing, live, pulls, questions, runs, scripts, sessions,
+    streams,
 };
 use std::alloc::Global;
 use std::sync::Wait;
@@ -28,6 +29,7 @@ fn of_fleets(alloc: Global, library: &str, call: &str) -> Option<Verdict> {
         "Fleet::of_script" | "Fleet::run_number" => scripts::verdict(alloc, library, call),
         "Session::of_script" => scripts::verdict(alloc, library, call),
         "read_script" => scripts::verdict_on_reading(alloc),
+        "read_record" | "read_filter" => fields::verdict(alloc, call),
         "GrowingScript::of" | "GrowingScript::push" => growing::verdict(alloc, call),
         _ => of_library(alloc, library, call),
     }

@@ -5,6 +5,7 @@
 
 mod calls;
 mod devices;
+mod fields;
 mod fleets;
 mod gates;
 mod growing;

@@ -1,11 +1,9 @@
-//! Calls of `fleet_steps`, except those that run one command.
+//! Calls of `fleet_steps`, except those that run one command; `run_plain` and `replay` by `fleet_runner`, which passes them on.
 use crate::devices::{has_made, same_device, same_devices};
 use crate::plans::LAWFUL;
 use crate::{devices, pulls, scripts};
-use fleet_steps::{
-    IssueLog, Outcome, RunError, no_reports, opening_device, opening_devices, replay, run_command,
-    run_plain,
-};
+use fleet_runner::{RunError, replay, run_plain};
+use fleet_steps::{IssueLog, Outcome, no_reports, opening_device, opening_devices, run_command};
 use photo_device::{Device, Held, HeldSet, Place, SharedList};
 use photo_pull::PullCounts;
 use photo_record::{PicNo, Record};

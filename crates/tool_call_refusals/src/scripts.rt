@@ -1,7 +1,9 @@
 //! The script on which calls are made, and the calls of `photo_script`.
 use crate::pulls::COUNTS;
 use crate::{fleets, plans, runs, sessions, streams, texts};
-use photo_script::{Report, Script, ScriptFault, push_report, read_script, report_text};
+use photo_script::{
+    Report, Script, ScriptFault, push_report, push_unnumbered, read_script, report_text,
+};
 use std::alloc::Global;
 use tool_value_refusals::{Verdict, judged, mark};
 
@@ -87,7 +89,8 @@ pub fn verdict_on_reading(alloc: Global) -> Option<Verdict> {
 fn calls_on_script(alloc: Global, script: &Script, call: &str) -> Option<Option<bool>> {
     match call {
         "report_text" => Some(writes(alloc, script)),
-        "push_report" => Some(push(alloc, script)),
+        "push_report" => Some(push(alloc, script, Some(8))),
+        "push_unnumbered" => Some(push(alloc, script, None)),
         _ => None,
     }
 }
@@ -108,10 +111,10 @@ fn writes(alloc: Global, script: &Script) -> Option<bool> {
     right
 }
 
-fn push(alloc: Global, script: &Script) -> Option<bool> {
+fn push(alloc: Global, script: &Script, number: Option<u32>) -> Option<bool> {
     let mut text = String::new(alloc);
     let right = if text.push_str("-").is_ok() {
-        pushes(alloc, &mut text, script)
+        pushes(alloc, &mut text, script, number)
     } else {
         None
     };
@@ -119,15 +122,26 @@ fn push(alloc: Global, script: &Script) -> Option<bool> {
     right
 }
 
-// Appends a report to a dash. After want of memory a part of the report's text may be there.
-fn pushes(alloc: Global, text: &mut String, script: &Script) -> Option<bool> {
+// Appends a report to a dash, with a number or without one. After want of memory a part of the report's text may be there.
+fn pushes(alloc: Global, text: &mut String, script: &Script, number: Option<u32>) -> Option<bool> {
     let report = Report::Pulled(COUNTS);
     mark(alloc);
-    let done = push_report(text, script, 8, &report).is_ok();
+    let done = match number {
+        Some(number) => push_report(text, script, number, &report).is_ok(),
+        None => push_unnumbered(text, script, &report).is_ok(),
+    };
     mark(alloc);
     drop(report);
     if done {
-        return Some(text.strip_prefix("-") == Some(TEXT));
+        return Some(text.strip_prefix("-") == text_of(number));
     }
     unless_changed(None, text.starts_with("-"))
+}
+
+// The report's text, with its number or without it.
+fn text_of(number: Option<u32>) -> Option<&'static str> {
+    match number {
+        Some(_) => Some(TEXT),
+        None => TEXT.strip_prefix("8 "),
+    }
 }

@@ -1,7 +1,7 @@
 //! Calls of the readers of a fleet, of a session and of a run's log.
-use fleet_runner::{Fleet, IssueLog, Outcome};
+use fleet_runner::{IssueLog, Outcome};
 use fleet_steps::made_on;
-use live_fleet::Session;
+use live_fleet::{Fleet, Session};
 use photo_record::PicNo;
 use photo_script::{Command, Script};
 use std::alloc::Global;

@@ -1,5 +1,5 @@
 //! Groups of calls by their names.
-use crate::{devices, filters, fleets, growing, ledgers, runs, scripts, staging};
+use crate::{copies, devices, filters, fleets, growing, ledgers, runs, scripts, staging};
 use std::alloc::Global;
 use std::sync::Wait;
 use tool_value_counts::answer_on_values;
@@ -32,6 +32,8 @@ fn of_scripts(alloc: Global, group: &str, times: u32) -> Option<bool> {
     match group {
         "script" | "plan" | "audit" | "log" => scripts::answer(alloc, group, times),
         "same_words" => scripts::answer_same_words(alloc, times),
+        "device_copy" => copies::answer_device(alloc, times),
+        "fleet_copy" => copies::answer_fleet(alloc, times),
         "workers" => Some(runs::answer_workers(times)),
         "growing" => growing::answer(alloc, times),
         "live" => growing::answer_live(alloc, times),

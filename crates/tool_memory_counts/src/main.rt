@@ -3,6 +3,7 @@
 //! its allocations.
 #![tactic(auto)]
 
+mod copies;
 mod devices;
 mod filters;
 mod fleets;

@@ -1,13 +1,14 @@
 //! Calls on a script.
 use crate::runs;
-use photo_script::{Report, Script, devices_of, read_script, totals_of};
+use photo_script::{CommandKind, Report, Script, devices_of, kind_of, read_script, totals_of};
+use script_reader::{is_name, read_picture};
 use std::alloc::{AllocError, Global};
 
 // A script of two devices and four commands.
 const TEXT: &str =
     "device cam all\ndevice frame rating >= 3\nnew cam 1 4 2024-01-01 sea\nknows frame 1 cam:1\npull frame cam\nlist cam\n";
 
-/// The groups of calls on that script: `devices_of`, `totals_of` and its readers, and those on its plan and on its run's
+/// The groups of calls on that script: `devices_of`, `kind_of`, `totals_of`, fields of a line and its readers, and those on its plan and on its run's
 /// outcome.
 pub fn answer(alloc: Global, group: &str, times: u32) -> Option<bool> {
     let read = read_script(alloc, TEXT.as_bytes());
@@ -29,11 +30,18 @@ fn answer_of_group(alloc: Global, script: &Script, group: &str, times: u32) -> O
 
 fn answer_of(script: &Script, times: u32) -> bool {
     for _ in 0..times {
-        if !has_devices(script) || !has_commands(script) || !has_totals(script) {
+        if !has_devices(script) || !has_commands(script) || !has_totals(script) || !has_fields() {
             return false;
         }
     }
     true
+}
+
+fn has_fields() -> bool {
+    is_name("cam")
+        && !is_name("Cam")
+        && matches!(read_picture("70"), Some(picture) if picture.value() == 70)
+        && read_picture("070").is_none()
 }
 
 fn has_devices(script: &Script) -> bool {
@@ -47,6 +55,7 @@ fn has_commands(script: &Script) -> bool {
     let tally = script.tally();
     devices_of(script.command(2)) == (1, None)
         && devices_of(script.command(3)) == (1, Some(0))
+        && kind_of(script.command(3)) == CommandKind::Pull
         && tally.changes == 1
         && tally.pulls == 1
         && tally.reports == 2

@@ -8,7 +8,9 @@ use crate::{questions, sessions};
 use live_fleet::{Fleet, Session};
 use photo_filter_rules::Filter;
 use photo_record::{PicNo, Record};
-use photo_script::{Command, Report, Script, push_report, read_script, report_text};
+use photo_script::{
+    Command, Report, Script, push_report, push_unnumbered, read_script, report_text,
+};
 use std::alloc::Global;
 use tool_value_refusals::{filter_of, rated};
 
@@ -60,6 +62,9 @@ fn write_list(rt: HostRuntime, script: &Script, number: u32, report: &Report)
     let mut text = String::new(rt.alloc());
     let done = push_report(&mut text, script, number, report).is_ok();
     tell(rt, "photo_script::push_report", done);
+    text.clear();
+    let done = push_unnumbered(&mut text, script, report).is_ok();
+    tell(rt, "photo_script::push_unnumbered", done);
 }
 
 // The calls on a copy of the fleet.

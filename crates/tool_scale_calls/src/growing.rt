@@ -3,13 +3,16 @@ use crate::told::tell;
 use live_script::{LiveScript, plain_text};
 use photo_script::GrowingScript;
 
-/// Makes them: the last line of these bytes comes behind the others.
+/// Makes them: the last line of these bytes comes after the others, and then the last two lines at once.
 pub fn make(rt: HostRuntime, source: &[u8]) {
     let Some((before, line)) = cut(source) else {
         return;
     };
     grow(rt, before, line);
     live(rt, before, line);
+    if let Some((first, lines)) = cut_two(source) {
+        live(rt, first, lines);
+    }
     let done = plain_text(rt.alloc(), source).is_ok();
     tell(rt, "live_script::plain_text", done);
 }
@@ -21,6 +24,14 @@ fn cut(source: &[u8]) -> Option<(&[u8], &[u8])> {
     let (before, rest) = lines.split_at(at);
     let (_, line) = rest.split_first()?;
     Some((before, line))
+}
+
+// The same with the last two lines, and the LF between them.
+fn cut_two(source: &[u8]) -> Option<(&[u8], &[u8])> {
+    let (_, lines) = source.split_last()?;
+    let (before, _) = cut(source)?;
+    let at = before.iter().rposition(|byte| *byte == b'\n')?;
+    Some((before.get(0..at)?, lines.get(at + 1..lines.len())?))
 }
 
 fn grow(rt: HostRuntime, before: &[u8], line: &[u8]) {

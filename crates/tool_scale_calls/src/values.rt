@@ -6,6 +6,7 @@ use photo_filter_rules::Filter;
 use photo_filter_text::{FilterTree, print, read};
 use photo_record::{Word, Words};
 use photo_version::{Author, Vector, Version};
+use script_reader::{read_filter, read_record};
 use std::alloc::{AllocError, Global};
 use tool_value_refusals::{Verdict, rated, verdict_on};
 
@@ -96,6 +97,8 @@ fn words(rt: HostRuntime) {
 }
 
 fn read_words(rt: HostRuntime, text: &str) {
+    let done = read_record(rt.alloc(), "4", "2024-01-01", text).is_ok();
+    tell(rt, "script_reader::read_record", done);
     let made = Words::read(rt.alloc(), text);
     tell(rt, "photo_record::Words::read", made.is_ok());
     if let Ok(words) = &made {
@@ -142,12 +145,14 @@ fn alternatives(alloc: Global) -> Result<String, AllocError> {
 fn filters(rt: HostRuntime) {
     let made = alternatives(rt.alloc());
     if let Ok(text) = &made {
-        read_filter(rt, text);
+        read_tree(rt, text);
     }
     drop(made);
 }
 
-fn read_filter(rt: HostRuntime, text: &str) {
+fn read_tree(rt: HostRuntime, text: &str) {
+    let done = read_filter(rt.alloc(), text).is_ok();
+    tell(rt, "script_reader::read_filter", done);
     let made = read(rt.alloc(), text);
     tell(rt, "photo_filter_text::read", made.is_ok());
     if let Ok(tree) = made {

@@ -102,11 +102,43 @@ const GROWN: &[(&[Step], &str)] = &[
         ],
         "device a all\ndevice c all\ndevice d all\nnew d 1 4 2024-05-01 -",
     ),
+    // a refused line leaves what can be taken back: the line before it, or none
+    (
+        &[
+            Step::Line("frob", "line 1: F5 UnknownCommand"),
+            Step::Back,
+            Step::Line("device a all", "device"),
+            Step::Line("device b all", "device"),
+            Step::Line("frob", "line 3: F5 UnknownCommand"),
+            Step::Back,
+            Step::Line("device a none", "line 2: F9 RepeatedDevice"),
+            Step::Back,
+        ],
+        "device a all",
+    ),
 ];
+
+// Whether a script that was read from a text has no line that can be taken back, also after a refused line.
+fn is_settled(alloc: Global, text: &str) -> bool {
+    let Ok(mut script) = GrowingScript::of(alloc, text.as_bytes()) else {
+        return false;
+    };
+    script.take_back();
+    is_taken(alloc, &mut script, "frob", "line 3: F5 UnknownCommand")
+        && {
+            script.take_back();
+            is_of(alloc, script.script(), text)
+        }
+}
 
 #[test]
 fn scripts_grow(rt: HostRuntime) {
     for (steps, text) in GROWN {
         assert!(rt; is_grown(rt.alloc(), steps, text), "{text}");
     }
+}
+
+#[test]
+fn read_scripts_are_settled(rt: HostRuntime) {
+    assert!(rt; is_settled(rt.alloc(), "device a all\nlist a"));
 }
