@@ -7,7 +7,7 @@ complete -c photofleet -n __fish_use_subcommand -a replay -d 'Runs a script in a
 complete -c photofleet -n __fish_use_subcommand -l help -s h -d 'Print help'
 complete -c photofleet -n __fish_use_subcommand -l version -s V -d 'Print version'
 complete -c photofleet -n '__fish_seen_subcommand_from plain' -l help -s h -d 'Print help'
-complete -c photofleet -n '__fish_seen_subcommand_from run' -l workers -x -d 'How many workers run, 1 to 256, each in a thread of its own'
+complete -c photofleet -n '__fish_seen_subcommand_from run' -l workers -x -d 'How many workers run at most, 1 to 256'
 complete -c photofleet -n '__fish_seen_subcommand_from run' -l help -s h -d 'Print help'
 complete -c photofleet -n '__fish_seen_subcommand_from batches' -l help -s h -d 'Print help'
 complete -c photofleet -n '__fish_seen_subcommand_from replay' -l help -s h -d 'Print help'

@@ -21,6 +21,6 @@ command  device  what happened to picture 1
 
 who lacks a current version, and why:
   phone   phone:4  no filter selects a removal; handed phone:4 over in 23
-  camera  phone:4  never heard of it
+  camera  phone:4  doesn't know of it
   server  phone:4  no filter selects a removal; handed phone:4 over in 24
-  tablet  phone:4  never heard of it; gave up phone:1 in 12
+  tablet  phone:4  doesn't know of it; gave up phone:1 in 12

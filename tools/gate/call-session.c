@@ -1,14 +1,15 @@
 /* Gives a script to a session line by line, and writes what it tells. It takes no memory by malloc itself. It is linked with
    '-Wl,--wrap=malloc,--wrap=realloc', so that it counts what the library asks for.
 
-       call-session SCRIPT      its device lines open the session, and each further line is given to it. Where memory was
-                                refused the call is made again, so what is written is what the program prints of the script
+       call-session SCRIPT      its device lines open the session, and each further line is given to it, the first two of
+                                them at once. Where memory was refused the call is made again, so what is written is what
+                                the program prints of the script
 
    Each call is given an 'out' that ends where nothing may be touched, filled with a byte that no text has. It exits with 99
    where a call did another thing than include/photofleet.h says: where a byte is touched behind a text or before 'out', or
    any at all where nothing is told or what is told has no room; where a closed session is used or closed again, or an open
    one opened; where a line is refused that was taken before, a report told in too little room, or an answer changed by
-   asking; where closing asks for memory. */
+   asking; where a fault of several lines at once isn't told as that fault; where closing asks for memory. */
 #define _GNU_SOURCE
 #include <fcntl.h>
 #include <photofleet.h>
@@ -89,6 +90,15 @@ static int give(const uint8_t *line, size_t length) {
     return write(1, told, all) == (ssize_t)all ? 0 : WRONG;
 }
 
+/* asks and gives lines with an LF between them that have a fault, of which the line ends so: none of them is taken */
+static int refuse(const uint8_t *lines, size_t length, const char *fault) {
+    call_with_bytes *const calls[] = {photofleet_ask, photofleet_give};
+    size_t end = strlen(fault);
+    for (int place = 0; place < 2; place++)
+        if (make(calls[place], lines, length, ROOM) != PHOTOFLEET_BAD_SCRIPT || written < end || memcmp(told + written - end, fault, end)) return WRONG;
+    return 0;
+}
+
 int main(int count, char **words) {
     int file = count == 2 ? open(words[1], O_RDONLY) : -1;
     ssize_t size = file < 0 ? -1 : read(file, script, ROOM);
@@ -107,13 +117,20 @@ int main(int count, char **words) {
         || make(photofleet_open, unknown, 11, 20) != PHOTOFLEET_BAD_SCRIPT) return WRONG;
     if (make(photofleet_open, script, opening, ROOM) != PHOTOFLEET_DONE || written != 0
         || make(photofleet_open, script, opening, ROOM) != PHOTOFLEET_BAD_SESSION) return WRONG;
-    while (from < end) {
+    for (int is_first = 1; from < end; is_first = 0) {
         const uint8_t *next = memchr(from, '\n', end - from);
+        if (is_first && next && next + 1 < end) next = memchr(next + 1, '\n', end - next - 1);
         if (!next) next = end;
         if (give(from, next - from)) return WRONG;
         from = next + 1;
     }
     if (make(photofleet_give, unknown, 11, ROOM) != PHOTOFLEET_BAD_SCRIPT || make(photofleet_ask, unknown, 11, 20) != PHOTOFLEET_BAD_SCRIPT) return WRONG;
+    static uint8_t large[(1 << 23) + 1] = "\n";
+    const uint8_t faulty[] = "# one\nlist nobody", odd[] = "# one\n\xff", remarks[] = "# one\n# two";
+    if (refuse(faulty, 17, ": F8 UnknownDevice\n") || refuse(odd, 7, "script fault: F3 NotUtf8\n")
+        || refuse(large, sizeof large, "script fault: F2 TooLarge\n")) return WRONG;
+    if (make(photofleet_ask, remarks, 11, ROOM) != PHOTOFLEET_DONE || written != 0
+        || make(photofleet_give, remarks, 11, ROOM) != PHOTOFLEET_DONE || written != 0) return WRONG;
     long before = asked_for;
     if (photofleet_close(&session) != PHOTOFLEET_DONE || photofleet_close(&session) != PHOTOFLEET_BAD_SESSION || asked_for != before) return WRONG;
     return 0;

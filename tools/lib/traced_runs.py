@@ -3,7 +3,7 @@ import re
 import subprocess
 import unicodedata
 
-MARKS = {"store": ("", ""), "out": ("[", "]"), "known": ("~", ""), "unheard": ("-", "")}
+MARKS = {"store": ("", ""), "out": ("[", "]"), "known": ("~", ""), "unknown": ("-", "")}
 CHANGES = ("new", "edit", "remove", "pull", "narrow", "refilter")
 # A script may have 100,000 commands.
 MOST_QUESTIONS = 80_000
@@ -87,7 +87,7 @@ class State:
             return "store"
         if version in self.out:
             return "out"
-        return "known" if version in self.known else "unheard"
+        return "known" if version in self.known else "unknown"
 
     def held(self, version):
         return version in self.store or version in self.out
@@ -211,7 +211,7 @@ class Traced:
             return "took" if version in source.store else f"was handed, into its {behind}"
         if before in ("store", "out"):
             return "handed over" if lends else "gave up"
-        if behind == "unheard":
+        if behind == "unknown":
             return "forgot"
         noticed = version in source.store and any(was.held(one) for one in version.history)
         return "was told of" if noticed else "learned of"
@@ -272,7 +272,7 @@ class Traced:
             holds = any(one.picture == picture for one in state.store + state.out)
             for version in current:
                 if not state.held(version):
-                    why = self.unselected(state.filter, version) if version in state.known else "never heard of it"
+                    why = self.unselected(state.filter, version) if version in state.known else "doesn't know of it"
                     lacking.append([f"  {self.names[device]}", version.name, why + ("" if holds else losses.get(device, ""))])
         end = ["", "who lacks a current version, and why:", *table(lacking)] if lacking else ["", "each device has each current version"]
         return "\n".join([*table(rows), *end]) + "\n"
@@ -326,7 +326,7 @@ class Traced:
             if len(current) > 1:
                 strife.append(f"  {picture}: " + " ".join(one.name for one in current))
         lines = cut_table(rows, width)
-        lines += ["", "V in the store, [V] in the out, ~V only known, -V never heard of; V* superseded"]
+        lines += ["", "V in the store, [V] in the out, ~V only known, -V not known; V* superseded"]
         lines += [f"no command made picture {picture}" for picture in named if picture not in made]
         lines += self.reasons(last, pictures)
         if strife:

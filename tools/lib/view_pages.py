@@ -137,7 +137,7 @@ SHOWN = """(() => {
   const text = one => one ? one.textContent : null;
   const rows = (box, part) => [...box.querySelectorAll(`table[aria-label^="${part} of "] tr:not(.left)`)]
     .map(row => [Number(text(row.cells[0])), text(row.querySelector("code.what")), text(row.cells[2].querySelector(".what"))]);
-  const devices = [...document.querySelectorAll("main section")].map(box => [text(box.querySelector("h2")), text(box.querySelector(".rule")), rows(box, "store"), rows(box, "out"), text(box.querySelector("pre.knows")), text(box.querySelector(".unheard"))]);
+  const devices = [...document.querySelectorAll("main section")].map(box => [text(box.querySelector("h2")), text(box.querySelector(".rule")), rows(box, "store"), rows(box, "out"), text(box.querySelector("pre.knows")), text(box.querySelector(".unknown"))]);
   return JSON.stringify([location.hash, [...document.querySelectorAll("#said pre")].map(text), devices]);
 })()"""
 # The items of the story of the picture that is followed.
@@ -157,8 +157,8 @@ def shown_after(traced, number):
     devices = []
     for name, state in zip(traced.names, traced.states[number]):
         parts = [[[one.picture, one.name, one.record] for one in part] for part in (state.store, state.out)]
-        unheard = sorted((one for one in traced.current_all(number) if one not in state.known), key=lambda one: one.order)
-        parts += ["\n".join(state.knows or ["* -"]), ", ".join(f"{one.picture} {one.name}" for one in unheard) or None]
+        unknown = sorted((one for one in traced.current_all(number) if one not in state.known), key=lambda one: one.order)
+        parts += ["\n".join(state.knows or ["* -"]), ", ".join(f"{one.picture} {one.name}" for one in unknown) or None]
         devices.append([name + f".{state.epoch}" * (state.epoch > 0), state.filter.text(), *parts])
     return [f"#{number}", said, devices]
 
@@ -168,7 +168,7 @@ def standings_at(traced, number, picture):
     shown, older, current = [], [], traced.current(picture, number)
     for version in current:
         why = "no filter selects a removal" if version.record == "removed" else "its filter doesn't select it"
-        words = {"store": "in the store", "out": "in the out", "known": f"known, not held, since {why}", "unheard": "never heard of it"}
+        words = {"store": "in the store", "out": "in the out", "known": f"known, not held, since {why}", "unknown": "doesn't know of it"}
         groups = {standing: [name for name, state in zip(traced.names, traced.states[number]) if state.standing(version) == standing] for standing in words}
         shown.append([version.name, version.record, [f"{words[standing]}: {', '.join(names)}" for standing, names in groups.items() if names]])
     for version in traced.log:

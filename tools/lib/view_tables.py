@@ -49,12 +49,12 @@ def check_stories(counter, program, script, traced, name, shown):
 
 
 def lacking_in(traced, story):
-    """Returns which devices lack which versions, and whether they never heard of them, as a story says at its end."""
+    """Returns which devices lack which versions, and whether they don't know of them, as a story says at its end."""
     rows = re.findall(r"(?m)^  (\w+) +(\S+) +(.*)$", story.partition("\nwho lacks")[2])
-    return [(name, version, why.startswith("never heard")) for name, version, why in rows]
+    return [(name, version, why.startswith("doesn't know")) for name, version, why in rows]
 
 
 def lacking_by_where(shown):
-    """Returns the same by the table of 'where': ~V is only known, -V was never heard of."""
+    """Returns the same by the table of 'where': ~V is only known, -V is not known."""
     head, *rows = [re.split("  +", line) for line in shown.split("\n\n")[0].splitlines()]
     return [(name, cell[1:], cell[0] == "-") for row in rows for name, tokens in zip(head[2:], row[2:]) for cell in tokens.split() if cell[0] in "~-"]

@@ -72,6 +72,15 @@ def test_a_question_changes_nothing():
         assert fleet.ask("new a 1 5 2024-05-01 -").text == fleet.give("new a 1 5 2024-05-01 -").text
 
 
+def test_a_line_has_no_lf():
+    with photofleet.Fleet("device a all") as fleet:
+        for call in (fleet.give, fleet.ask):
+            for line in ("list a\nlist a", b"list a\n", "\n"):
+                with pytest.raises(ValueError):
+                    call(line)
+        assert fleet.give("list a").number == 1
+
+
 def test_faults_have_number_line_and_text():
     with photofleet.Fleet("device a all") as fleet:
         fleet.give("list a")

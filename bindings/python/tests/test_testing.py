@@ -54,6 +54,18 @@ def test_the_plain_filters():
         rated(4, 3)
 
 
+def test_words_are_compared_in_form_c():
+    composed, apart = "caf\u00e9", "cafe\u0301"
+    for wanted, given_ in ((composed, apart), (apart, composed)):
+        drawn, record = rated(required=[wanted]), Record(5, words=(given_,))
+        assert drawn.selects(record) and drawn.alternatives[0].selects(record) and not rated(forbidden=[wanted]).selects(record)
+        assert rated(required=[given_]).covers(drawn) and Filter.read(f"keyword {given_}") == drawn
+        with photofleet.Fleet([f"device a keyword {wanted}"]) as fleet:
+            assert fleet.give(New("a", 1, record)).place == "store"
+    with pytest.raises(ValueError):
+        rated(required=[composed], forbidden=[apart])
+
+
 @STEADY
 @given(st.data())
 def test_each_command_can_be_taken_as_the_fleet_stands(data):

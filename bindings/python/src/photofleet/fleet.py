@@ -16,7 +16,10 @@ Line = Union[str, bytes, Command]
 
 
 def _line(line: Line) -> bytes:
-    return bytes_of(line if isinstance(line, (str, bytes)) else str(line))
+    text = bytes_of(line if isinstance(line, (str, bytes)) else str(line))
+    if b"\n" in text:
+        raise ValueError(f"a line has no LF: {line!r}")
+    return text
 
 
 class Fleet:
@@ -48,7 +51,7 @@ class Fleet:
     def give(self, line: Line) -> Report | None:
         """Gives a line, and returns its report: None of a declaration, of an empty line or of a remark.
 
-        It raises ScriptFault or NoMemory, with the fleet as it was.
+        It raises ScriptFault or NoMemory, or ValueError where the line has an LF, with the fleet as it was.
         """
         text = self._call("give", _line(line))
         return read_report(text) if text else None

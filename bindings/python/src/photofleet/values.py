@@ -1,10 +1,16 @@
 """What scripts and reports say, as values: versions, records, filters, held versions, counts and knowledge."""
 from __future__ import annotations
 
+import unicodedata
 from dataclasses import dataclass
 from typing import Iterable, NamedTuple
 
 FIRST_DAY, LAST_DAY = "0000-01-01", "9999-12-31"
+
+
+def _composed(words: Iterable[str]) -> frozenset[str]:
+    """Words in Unicode's form C, in which the judge compares them."""
+    return frozenset(unicodedata.normalize("NFC", it) for it in words)
 
 
 class Version(NamedTuple):
@@ -99,12 +105,12 @@ class Alternative(NamedTuple):
     forbidden: frozenset[str] = frozenset()
 
     def selects(self, record: Record) -> bool:
-        words = frozenset(record.words)
+        words = _composed(record.words)
         return (
             self.ratings[0] <= record.rating <= self.ratings[1]
             and self.days[0] <= record.day <= self.days[1]
-            and self.required <= words
-            and not self.forbidden & words
+            and _composed(self.required) <= words
+            and not _composed(self.forbidden) & words
         )
 
     def asks_no_more_than(self, other: Alternative) -> bool:
@@ -139,11 +145,13 @@ class Alternative(NamedTuple):
 
 @dataclass(frozen=True)
 class Filter:
-    """What a device is to keep, by alternatives. `str` of it is its text in a script."""
+    """What a device is to keep, by alternatives. `str` of it is its text in a script. Words are in form C, as in scripts."""
 
     alternatives: tuple[Alternative, ...]
 
     def __post_init__(self) -> None:
+        composed = tuple(it._replace(required=_composed(it.required), forbidden=_composed(it.forbidden)) for it in self.alternatives)
+        object.__setattr__(self, "alternatives", composed)
         if not all(it.is_possible() for it in self.alternatives):
             raise ValueError("an alternative that no record fits")
 
