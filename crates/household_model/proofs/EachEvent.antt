@@ -11,10 +11,11 @@ use Rattle.photo_version.specs.Author.{author}
 use Rattle.photo_model.specs.Entry.{Entry}
 use Rattle.photo_model.specs.Device.{ModelDevice, opening, new_entry, made, narrowed}
 use Rattle.photo_model.specs.Pull.{handed, pulled}
+use Rattle.photo_model.specs.Refiltered.{begun}
 use Rattle.fleet_model.specs.Runs.{device_at}
 use Rattle.fleet_model.specs.Members.{In}
 use Rattle.fleet_model.proofs.Members.{in_one, in_either}
-use Rattle.household_model.specs.Replica.{Receipt, Receipts, Replica, is_of, may_begin, begun, is_receipted, after_settling, receipts_for, after_taking, after_forgetting}
+use Rattle.household_model.specs.Replica.{Receipt, Receipts, Replica, is_of, may_begin, is_receipted, after_settling, receipts_for, after_taking, after_forgetting}
 use Rattle.household_model.specs.Household.{Household, Event, Make, Narrow, Begin, Copy, Settle, Take, Forget, making, narrowing, beginning, copying, settling, taking, forgetting, with_replica, with_device, after_event, record_of, devices_of}
 use Rattle.household_model.proofs.Facts.{IsRightCopy}
 use Rattle.household_model.proofs.RightSteps.{making_right, right_now, carried}

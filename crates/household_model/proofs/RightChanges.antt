@@ -9,6 +9,7 @@ use Rattle.photo_version.proofs.AuthorLemmas.{same_is}
 use Rattle.photo_model.specs.Entry.{Entry}
 use Rattle.photo_model.specs.Device.{ModelDevice, knows_entry, holds, selects, narrowed}
 use Rattle.photo_model.specs.Pull.{taken, handed, pulled}
+use Rattle.photo_model.specs.Refiltered.{begun}
 use Rattle.fleet_model.specs.Runs.{device_at}
 use Rattle.fleet_model.specs.Members.{In}
 use Rattle.fleet_model.proofs.Members.{in_left, in_right, any_gives}
@@ -17,7 +18,7 @@ use Rattle.fleet_model.proofs.Pulling.{coming_is_told, told_unknown, told_held, 
 use Rattle.fleet_model.proofs.Narrowing.{still_held}
 use Rattle.fleet_model.proofs.Refiltering.{held_again}
 use Rattle.fleet_model.proofs.SoundPulling.{kept_from_target}
-use Rattle.household_model.specs.Replica.{Receipt, receipt_for, may_begin, begun, has_entry_of, receipts_for}
+use Rattle.household_model.specs.Replica.{Receipt, receipt_for, may_begin, has_entry_of, receipts_for}
 use Rattle.household_model.proofs.Facts.{IsRightReceipt, IsRightCopy, IsUnnamed, IsFreelyHeld, IsCurrent, IsRight}
 use Rattle.household_model.proofs.Following.{free_here, free_there}
 use Rattle.household_model.proofs.RightSteps.{IsStep, copies_after, receipts_after, step_right, step_keeps}

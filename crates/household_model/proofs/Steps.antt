@@ -8,6 +8,7 @@ use Rattle.photo_version.specs.Words.{device_back}
 use Rattle.photo_model.specs.Entry.{Entry}
 use Rattle.photo_model.specs.Device.{ModelDevice, holds, narrowed}
 use Rattle.photo_model.specs.Pull.{pulled}
+use Rattle.photo_model.specs.Refiltered.{begun}
 use Rattle.fleet_model.specs.Members.{In}
 use Rattle.fleet_model.proofs.Members.{in_left, in_right, in_either, in_passed, passes}
 use Rattle.fleet_model.proofs.Pulling.{after_old}
@@ -17,7 +18,7 @@ use Rattle.fleet_model.proofs.SoundFacts.{IsOrderly, IsSoundDevice}
 use Rattle.fleet_model.proofs.SoundNarrowing.{narrowed_sound}
 use Rattle.fleet_model.proofs.SoundRefiltering.{refiltered_sound}
 use Rattle.fleet_model.proofs.SoundPulling.{pulled_sound}
-use Rattle.household_model.specs.Replica.{may_begin, begun}
+use Rattle.household_model.specs.Replica.{may_begin}
 use Rattle.household_model.proofs.Following.{follows_within, follows_later}
 use Rattle.household_model.proofs.RightSteps.{IsStep}
 

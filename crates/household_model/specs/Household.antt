@@ -7,8 +7,9 @@ use Rattle.photo_filter_rules.specs.Covers.{covers}
 use Rattle.photo_filter_rules.specs.Matching.{IsInRange}
 use Rattle.photo_model.specs.Entry.{Entry}
 use Rattle.photo_model.specs.Device.{ModelDevice, new_entry, made, narrowed}
+use Rattle.photo_model.specs.Refiltered.{begun}
 use Rattle.fleet_model.specs.Runs.{Fleet, opening_from}
-use Rattle.household_model.specs.Replica.{Receipts, Replica, is_of, may_begin, begun, after_settling, after_taking, after_forgetting, is_obsolete}
+use Rattle.household_model.specs.Replica.{Receipts, Replica, is_of, may_begin, after_settling, after_taking, after_forgetting, is_obsolete}
 
 -- the live replicas, one for each device number from 0; every copy that was ever made, oldest first; and the log of all versions
 -- made, oldest first

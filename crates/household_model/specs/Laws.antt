@@ -3,11 +3,11 @@ use Rattle.std.specs.Prelude.{◌≡◌, ◌≢◌, ℕ, ◌+◌, ◌<◌, false
 use Rattle.photo_filter_text.specs.Tree.{Tree}
 use Rattle.photo_version.specs.Author.{Author, epoch_of_author, same_device}
 use Rattle.photo_model.specs.Device.{ModelDevice}
-use Rattle.photo_model.specs.Refiltered.{refiltered}
+use Rattle.photo_model.specs.Refiltered.{refiltered, begun}
 use Rattle.photo_model.specs.Pull.{pulled, handed_over, counts_of}
 use Rattle.fleet_model.specs.Members.{In}
 use Rattle.fleet_model.specs.Sound.{IsSoundAndKept}
-use Rattle.household_model.specs.Replica.{Receipt, Replica, begun, after_settling, count_settled, after_pulling}
+use Rattle.household_model.specs.Replica.{Receipt, Replica, after_settling, count_settled, after_pulling}
 use Rattle.household_model.specs.Household.{Event, AreInRange, after_events, pull_and_settle, household_after, devices_of, fleet_of}
 use Rattle.household_model.specs.Meeting.{MayPullCopy}
 

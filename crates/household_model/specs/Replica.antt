@@ -2,12 +2,10 @@
 -- alone, and the copy stays unchanged.
 use Rattle.std.specs.Prelude.{ℕ, Bool, not, ◌&&◌, ◌||◌, ◌==◌, nat_lt, List, length, filter}
 use Rattle.std.specs.List.{list_any}
-use Rattle.photo_filter_text.specs.Tree.{Tree}
-use Rattle.photo_version.specs.Author.{Author, author_at, device_of_author, epoch_of_author, same_author, is_earlier_epoch}
+use Rattle.photo_version.specs.Author.{Author, device_of_author, epoch_of_author, same_author, is_earlier_epoch}
 use Rattle.photo_version.specs.Version.{Version, same_version}
 use Rattle.photo_model.specs.Entry.{Entry}
 use Rattle.photo_model.specs.Device.{ModelDevice, holds, known}
-use Rattle.photo_model.specs.Refiltered.{refiltered}
 use Rattle.photo_model.specs.Pull.{handed, pulled}
 
 -- the giver, a device in an epoch, handed over this version of this picture out of its out
@@ -33,15 +31,9 @@ pub record Replica : Type 0 where
 abbrev pub is_of : ℕ → Replica → Bool
 is_of n r = device_of_author r.device.author == n
 
--- Another epoch: any later one, not only the next, with any filter.
-
--- the epoch is later than the device's present one, and at most 4,294,967,295
+-- the epoch, which a refiltering may begin, is later than the device's present one, and at most 4,294,967,295
 abbrev pub may_begin : ℕ → ModelDevice → Bool
 may_begin epoch d = nat_lt (epoch_of_author d.author) epoch && nat_lt epoch 4294967296
-
--- the device refilters, and begins that epoch instead of its next one
-abbrev pub begun : ℕ → Tree → ModelDevice → ModelDevice
-begun epoch tree d = record (refiltered tree d) { author = author_at (device_of_author d.author) epoch }
 
 -- Settling: the replica gives up, from its out, what a copy has receipts for.
 

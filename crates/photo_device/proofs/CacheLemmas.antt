@@ -1,5 +1,5 @@
 -- What is cached, once one more is inserted or places are reserved.
-use Rattle.std.proofs.Common.{◌≡◌, ℕ, zero, suc, ◌<◌, true, List, [], ◌∷◌, ◌++◌, length, get_or, set, replicate, Vec, refl, sym, ◌∙◌, inl, inr, subst, arith, length-append}
+use Rattle.std.proofs.Common.{◌≡◌, ℕ, zero, suc, ◌<◌, ◌≤◌, true, List, [], ◌∷◌, ◌++◌, length, get_or, set, replicate, Vec, refl, sym, ◌∙◌, inl, inr, subst, arith, length-append}
 use Rattle.std.specs.declared.alloc.Global.{Global}
 use Rattle.std.proofs.Math.ListN.{length-set, get_or-append}
 use Rattle.std.proofs.Math.Seq.{get_or-append_seam}
@@ -7,7 +7,7 @@ use Rattle.std.proofs.lemmas.Bool.{cases_lt}
 use Rattle.std.proofs.lemmas.List.{get_or_default, get_or-set_same, get_or-set_other}
 use Rattle.photo_version.specs.Version.{Version, version}
 use Rattle.item_knowledge.specs.Fragments.{Fragment, knows}
-use Rattle.photo_device.specs.Cached.{author_of_row, IsRow, AreKnown}
+use Rattle.photo_device.specs.Cached.{author_of_row, IsRow, AreKnown, IsSmall}
 
 -- another row, and a row with one place written, with places behind it, and a new one
 
@@ -48,3 +48,25 @@ cached_more known rows a n q picture row new v within of_rows inside is of_pictu
 pub known_still : (known : List Fragment) (rows : List (Vec ℕ Global)) (a k : ℕ) (row new : Vec ℕ Global) → a < length rows → row ≡ get_or rows a row → new.items ≡ row.items ++ replicate k 0 → AreKnown known rows → AreKnown known (set rows a new)
 known_still known rows a k row new within of_rows is all =
     known_set known rows a new all (subst (IsRow known a) (sym is) (λ n. rw (nothing_behind row.items k n) (is_row known rows a row within of_rows all n)))
+
+-- the cache stays small with one row more, and with another short row
+
+pub small_behind : (rows : List (Vec ℕ Global)) (new : Vec ℕ Global) → new.items ≡ [] → length rows < 8192 → IsSmall rows → IsSmall (rows ++ new ∷ [])
+small_behind rows new empty room small = record {
+  few = omega (arith, small.few, length-append rows (new ∷ []));
+  short = λ a d within. elim (cases_lt a (length rows)) [
+    | inl before ↦ rw (get_or-append rows (new ∷ []) d a before) (small.short a d before)
+    | inr last ↦
+        let here : a ≡ length rows = omega (arith, length-append rows (new ∷ [])) in
+        rw (here, get_or-append_seam rows new [] d, empty) (omega arith)
+  ];
+}
+
+pub small_still : (rows : List (Vec ℕ Global)) (a : ℕ) (new : Vec ℕ Global) → length new.items ≤ 1250030 → IsSmall rows → IsSmall (set rows a new)
+small_still rows a new short small = record {
+  few = rw (length-set rows a new) small.few;
+  short = λ b d within. let was = small.short b d in grind (arith, get_or-set_same, get_or-set_other, length-set);
+}
+
+pub short_here : (rows : List (Vec ℕ Global)) (a : ℕ) (row : Vec ℕ Global) → a < length rows → row ≡ get_or rows a row → IsSmall rows → length row.items ≤ 1250030
+short_here rows a row within is small = rw is (small.short a row within)

@@ -77,7 +77,7 @@ impl Device {
     ghost use Rattle.item_knowledge.specs.Fragments.{knows};
     ghost use Rattle.photo_model.specs.Device.{ModelDevice, holds, is_held, opening, made, next_version, new_place, changed, without_waiting, narrowed, moved};
     ghost use Rattle.photo_device.specs.Device.{Shows, unstaged, IsAsItWas};
-    ghost use Rattle.photo_model.specs.Refiltered.{refiltered};
+    ghost use Rattle.photo_model.specs.Refiltered.{refiltered, begun};
     ghost use Rattle.photo_device.specs.Resorted.{IsResorted};
     ghost use Rattle.photo_model.specs.Conflicts.{conflicts_of};
     ghost use Rattle.photo_record.specs.declared.record.Record.TheVariants.{Removed};
@@ -456,6 +456,7 @@ impl Device {
     ///
     /// The only error is refused memory, which leaves the device as it was and gives the filter back. Nothing is staged
     /// after any result.
+    #[tactic(auto, using(crate::proofs::ResortLemmas::next_begun))]
     pub fn refilter(&mut self, filter: Filter) -> Result<(u64, u64), (Filter, AllocError)>
         requires { epoch_of_author self.old.author < 4_294_967_295 }
         ensures shows { OnOk result ((m : ModelDevice) → Shows self.old m → Shows self.new (refiltered filter m)) }
@@ -465,27 +466,41 @@ impl Device {
         ensures err { OnErr result (IsAsItWas self.old self.new) }
         ensures staged { self.new.staged ≡ None }
     {
+        let next = self.author.epoch() + 1;
+        self.begin(next, filter)
+    }
+
+    /// Does what `refilter` does, but begins that later epoch instead of the next one.
+    ///
+    /// The only error is refused memory, which leaves the device as it was and gives the filter back. Nothing is staged
+    /// after any result.
+    pub fn begin(&mut self, epoch: u32, filter: Filter) -> Result<(u64, u64), (Filter, AllocError)>
+        requires { epoch_of_author self.old.author < epoch }
+        ensures shows { OnOk result ((m : ModelDevice) → Shows self.old m → Shows self.new (begun epoch filter m)) }
+        ensures store { IfOk result (λ sizes. sizes.0 ≡ length self.new.store) }
+        ensures out { IfOk result (λ sizes. sizes.1 ≡ length self.new.out) }
+        ensures returned { IfErr result (λ e. e.0 ≡ filter) }
+        ensures err { OnErr result (IsAsItWas self.old self.new) }
+        ensures staged { self.new.staged ≡ None }
+    {
         self.unstage();
         match resort(&filter, &self.store, &self.out) {
-            Ok(resorted) => Ok(self.begin_epoch(filter, resorted)),
+            Ok(resorted) => Ok(self.begin_epoch(epoch, filter, resorted)),
             Err(refused) => Err((filter, refused)),
         }
     }
 
-    // Begins the next epoch, with the new filter and with the held versions that it sorted.
-    fn begin_epoch(&mut self, filter: Filter, resorted: Resorted) -> (u64, u64)
+    // Begins a later epoch, with the new filter and with the held versions that it sorted.
+    fn begin_epoch(&mut self, epoch: u32, filter: Filter, resorted: Resorted) -> (u64, u64)
         requires unstaged { self.old.staged ≡ None }
-        requires epoch { epoch_of_author self.old.author < 4_294_967_295 }
+        requires later { epoch_of_author self.old.author < epoch }
         requires resorted { IsResorted filter self.old.store self.old.out resorted }
-        ensures shows { (m : ModelDevice) → Shows self.old m → Shows self.new (refiltered filter m) }
+        ensures shows { (m : ModelDevice) → Shows self.old m → Shows self.new (begun epoch filter m) }
         ensures store { result.0 ≡ length self.new.store }
         ensures out { result.1 ≡ length self.new.out }
         ensures staged { self.new.staged ≡ None }
     {
-        let Some(author) = self.author.next() else {
-            unreachable!()
-        };
-        self.author = author;
+        self.author = Author::at(self.author.value(), epoch);
         self.filter = filter;
         self.counter = 0;
         let Resorted { store, out, told } = resorted;
@@ -509,9 +524,10 @@ impl Device {
         device
     }
 
-    // Whether the store or the out has a version of a picture.
-    fn holds(&self, picture: PicNo) -> bool
-        ensures { result ≡ (has_picture picture self.now.store || has_picture picture self.now.out) }
+    /// Whether the store or the out has a version of the picture, perhaps one that removes it. Searches by picture.
+    pub fn holds(&self, picture: PicNo) -> bool
+        ensures held { result ≡ (has_picture picture self.now.store || has_picture picture self.now.out) }
+        ensures shows { (m : ModelDevice) → Shows self.now m → result ≡ is_held m picture }
     {
         self.store.has_picture(picture) || self.out.has_picture(picture)
     }

@@ -1,7 +1,7 @@
 // A cache of versions that are known, by device and number.
-ghost use Rattle.std.specs.Prelude.{◌≡◌, ◌++◌, ◌-◌, true, length, replicate, List, IfSome};
+ghost use Rattle.std.specs.Prelude.{◌≡◌, ◌++◌, ◌-◌, ◌<◌, ◌≤◌, true, length, replicate, List, IfSome};
 ghost use Rattle.item_knowledge.specs.Fragments.{Fragment, knows};
-ghost use Rattle.photo_device.specs.Cached.{AreKnown, author_of_row};
+ghost use Rattle.photo_device.specs.Cached.{AreKnown, IsSmall, author_of_row};
 
 use photo_record::PicNo;
 use photo_version::{Author, Version};
@@ -10,7 +10,7 @@ use std::alloc::Global;
 // Stands at a place where no version is cached. No picture has this number.
 const NOTHING: u32 = 0;
 
-// Versions of this number and above are never cached, so a row has at most 5 MiB.
+// Versions of this number and above are never cached, so a row has at most 1,250,030 places, in 5 MiB.
 const MOST: u32 = 1_000_000;
 
 // How many devices are cached, and how many epochs of each, so the list of rows takes at most 200 KiB.
@@ -87,9 +87,10 @@ impl KnownCache {
 
     /// Reserves places for the author's versions up to this one, and some beyond. Nothing is reserved if the author has
     /// no row, the number is too great, or memory is refused. A version without a place isn't cached.
-    #[tactic(auto, using(std::proofs::lemmas::Grind::common_steps, crate::proofs::CacheLemmas::known_behind, crate::proofs::CacheLemmas::known_still))]
+    #[tactic(auto, using(std::proofs::lemmas::Grind::common_steps, crate::proofs::CacheLemmas::known_behind, crate::proofs::CacheLemmas::known_still, crate::proofs::CacheLemmas::small_behind, crate::proofs::CacheLemmas::small_still, crate::proofs::CacheLemmas::short_here))]
     pub fn reserve(&mut self, version: Version)
-        ensures { (known : List Fragment) → AreKnown known self.old.rows.items → AreKnown known self.new.rows.items }
+        ensures small { IsSmall self.old.rows.items → IsSmall self.new.rows.items }
+        ensures known { (known : List Fragment) → AreKnown known self.old.rows.items → AreKnown known self.new.rows.items }
     {
         if version.n() >= MOST {
             return;
@@ -110,7 +111,8 @@ impl KnownCache {
 
 // The place of an author's row. Rows of later epochs stand behind those of earlier ones.
 fn row_of(author: Author) -> Option<usize>
-    ensures { IfSome result (λ place. author_of_row place ≡ author) }
+    ensures author { IfSome result (λ place. author_of_row place ≡ author) }
+    ensures few { IfSome result (λ place. place < 8192) }
 {
     let (device, epoch) = (usize::from(author.value()), author.epoch() as usize);
     if device >= DEVICES || epoch >= EPOCHS {
@@ -121,7 +123,8 @@ fn row_of(author: Author) -> Option<usize>
 
 // Makes a row reach beyond a place, if there is memory. The row grows by at least a quarter, so that it is seldom copied.
 fn fill(row: &mut Vec<u32>, number: u32)
-    ensures { row.new.items ≡ row.old.items ++ replicate (length row.new.items - length row.old.items) 0 }
+    ensures short { number < 1_000_000 → length row.old.items ≤ 1_250_030 → length row.new.items ≤ 1_250_030 }
+    ensures zeros { row.new.items ≡ row.old.items ++ replicate (length row.new.items - length row.old.items) 0 }
 {
     let number = number as usize;
     if number < row.len() {

@@ -5,4 +5,5 @@ mod Told
 mod Shown
 pub mod Wanted
 mod Asked
+mod Halves
 pub mod WorkedExamples

@@ -155,10 +155,15 @@ module _ (t s : Kept) (ready : AreReady t s) (tm sm : ModelDevice) (shows_t : Sh
   pub shows_handed : (after : Kept) → Shows after (without_waiting (versions_of (new_waiting t s)) sm) → Shows after (handed_over tm sm)
   shows_handed after shows = subst (λ out. Shows after (record sm { out = out })) handed_left shows
 
+  -- where it hands over nothing it is as it was
+  pub nothing_handed : new_waiting t s ≡ [] → Shows s (handed_over tm sm)
+  nothing_handed none =
+      let kept : without (versions_of (new_waiting t s)) sm.out ≡ sm.out = ap (λ hs. without (versions_of hs) sm.out) none ∙ filter_true sm.out in
+      shows_handed s (subst (λ out. Shows s (record sm { out = out })) (sym kept) shows_s)
+
 -- what the code found
 module _ (t s : Kept) (h : PullDelta) (delta : IsDelta t s h) (tm sm : ModelDevice) (shows_t : Shows t tm) (shows_s : Shows s sm) where
-  -- where nothing was found, both are as they were
-
+  -- where nothing was found the target is as it was
   pub nothing_pulled : (known taught : Knowing) → known.known ≡ t.knowledge → taught.known ≡ s.knowledge → IsNothing h known taught → Shows t (pulled tm sm)
   nothing_pulled known taught known_is taught_is none =
       let no_drops : drops t s ≡ [] = λ i. versions_of ((sym delta.dropped_stored ∙ none.dropped_stored) i) ++ versions_of ((sym delta.dropped_waiting ∙ none.dropped_waiting) i) in
@@ -177,11 +182,6 @@ module _ (t s : Kept) (h : PullDelta) (delta : IsDelta t s h) (tm sm : ModelDevi
             λ l h. sym (ap (λ fs. knows fs p v) known_is) ∙ none.teaches_none (delta.learned ∙ l) p v above (ap (λ fs. knows fs p v) taught_is ∙ h) in
             grind arith;
       })
-
-  pub nothing_handed : h.handed.items ≡ [] → Shows s (handed_over tm sm)
-  nothing_handed none =
-      let kept : without (versions_of (new_waiting t s)) sm.out ≡ sm.out = ap (λ hs. without (versions_of hs) sm.out) (sym delta.handed ∙ none) ∙ filter_true sm.out in
-      shows_handed t s delta.ready tm sm shows_t shows_s s (subst (λ out. Shows s (record sm { out = out })) (sym kept) shows_s)
 
   pub counts_found : (counts : PullCounts) → counts.taken ≡ length (filter (is_selected t.tree) h.heard.items) → counts.handed ≡ length h.handed.items
       → counts.notices + counts.taken ≡ length h.heard.items → counts.dropped ≡ length h.dropped.stored.items + length h.dropped.waiting.items → counts.learned ≡ h.learned → counts ≡ counts_of tm sm

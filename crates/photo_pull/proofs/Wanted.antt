@@ -85,12 +85,12 @@ out_of_date t s something tm sm shows_t shows_s = elim (cases_Bool (is_up_to_dat
   | inr old ↦ old
 ]
 
--- then there is something to pull; and where what was found isn't nothing. What was staged before is no part of either device
+-- then there is something to pull; and where what was found isn't nothing. What was staged on the target before is no part of it
 
-module _ (t s now from : Kept) (is : now ≡ unstaged t) (from_is : from ≡ unstaged s) where
-  pub to_pull_something : IsSomething now from → HasToPull t s
-  to_pull_something something = λ tm sm shows_t shows_s up _. false≢true (sym (out_of_date now from something tm sm (shows_unstaged t now tm is shows_t) (shows_unstaged s from sm from_is shows_s)) ∙ up)
+module _ (t now s : Kept) (is : now ≡ unstaged t) where
+  pub to_pull_something : IsSomething now s → HasToPull t s
+  to_pull_something something = λ tm sm shows_t shows_s up _. false≢true (sym (out_of_date now s something tm sm (shows_unstaged t now tm is shows_t) shows_s) ∙ up)
 
-  pub to_pull : (h : PullDelta) → IsDelta now from h → (known taught : Knowing) → known.known ≡ now.knowledge → taught.known ≡ from.knowledge → (IsNothing h known taught → ⊥) → HasToPull t s
+  pub to_pull : (h : PullDelta) → IsDelta now s h → (known taught : Knowing) → known.known ≡ now.knowledge → taught.known ≡ s.knowledge → (IsNothing h known taught → ⊥) → HasToPull t s
   to_pull h delta known taught known_is taught_is some = λ tm sm shows_t shows_s up nothing.
-      some (hears_nothing now from delta.ready tm sm (shows_unstaged t now tm is shows_t) (shows_unstaged s from sm from_is shows_s) up h delta nothing known taught known_is taught_is)
+      some (hears_nothing now s delta.ready tm sm (shows_unstaged t now tm is shows_t) shows_s up h delta nothing known taught known_is taught_is)

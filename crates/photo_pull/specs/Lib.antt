@@ -1,4 +1,5 @@
 pub mod MayPull
 pub mod OnHeld
 pub mod Findings
+pub mod StagedPulls
 pub mod Examples

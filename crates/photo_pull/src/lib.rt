@@ -12,8 +12,10 @@ mod pulling;
 mod quiet_range;
 mod selection;
 mod set_cursor;
+mod staging;
 mod superseding;
 
 pub use photo_model::PullCounts;
 pub use previewing::preview;
 pub use pulling::pull;
+pub use staging::{StagedPull, stage_pull};

@@ -7,9 +7,7 @@ ghost use Rattle.photo_model.specs.Pull.{pulled, handed_over, counts_of};
 ghost use Rattle.photo_pull.specs.Findings.{HasToPull};
 
 use crate::PullCounts;
-use crate::change::stage_found;
-use crate::delta::delta_between;
-use crate::news::news_of;
+use crate::staging::stage_pull;
 use photo_device::Device;
 use std::alloc::{AllocError, Global};
 
@@ -39,16 +37,12 @@ pub fn pull(
     ensures target_unstaged { target.new.staged ≡ None }
     ensures source_unstaged { source.new.staged ≡ None }
 {
-    target.unstage();
     source.unstage();
-    let news = news_of(alloc, target, source)?;
-    let delta = delta_between(alloc, news, target, source)?;
-    let counts = delta.counts(target, source);
-    if delta.is_nothing(target.knowledge(), source.knowledge()) {
-        return Ok(counts);
+    let found = stage_pull(alloc, target, source)?;
+    let counts = found.counts;
+    if let Some(handed) = &found.handed {
+        source.hand_over(handed);
     }
-    let handed = stage_found(alloc, delta, target, source)?;
-    source.hand_over(&handed);
-    target.commit(handed);
+    found.commit(target);
     Ok(counts)
 }
