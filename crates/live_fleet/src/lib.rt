@@ -19,5 +19,5 @@ mod step;
 
 pub use fault::FleetFault;
 pub use fleet::Fleet;
-pub use questions::{Moves, audited, holding, knowing, lacking, pull_moves, selected};
+pub use questions::{Moves, holding, knowing, lacking, pull_moves, selected};
 pub use session::Session;

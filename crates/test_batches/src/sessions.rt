@@ -6,8 +6,10 @@ mod numbers;
 mod working;
 
 use asking::{Question, copies, has_conflict, is_asked, lists, moves, selects};
-use live_fleet::{FleetFault, Session, audited};
-use photo_device::Place;
+use fleet_audit::audit;
+use fleet_steps::IssueLog;
+use live_fleet::{Fleet, FleetFault, Session};
+use photo_device::{Place, SharedHeld};
 use photo_filter_rules::Filter;
 use photo_filter_text::read;
 use photo_version::Author;
@@ -153,11 +155,28 @@ fn is_run(alloc: Global, steps: &[Step]) -> bool {
 // Whether a session passes the steps one after another, and an audit after each says yes.
 fn does(alloc: Global, session: &mut Session, steps: &[Step]) -> bool {
     for step in steps {
-        if !does_one(alloc, session, step) || audited(alloc, session.fleet()) != Ok(true) {
+        if !does_one(alloc, session, step) || !is_sound(alloc, session.fleet()) {
             return false;
         }
     }
     true
+}
+
+// Whether an audit of the fleet's devices and log says yes.
+fn is_sound(alloc: Global, fleet: &Fleet) -> bool {
+    match log_of(alloc, fleet) {
+        Some(log) => audit(fleet.devices(), &log),
+        None => false,
+    }
+}
+
+fn log_of(alloc: Global, fleet: &Fleet) -> Option<IssueLog> {
+    let mut log = Vec::new(alloc);
+    for held in fleet.log() {
+        log.push(SharedHeld::new(alloc, held.try_clone().ok()?).ok()?)
+            .ok()?;
+    }
+    IssueLog::new(alloc, log).ok()
 }
 
 fn does_one(alloc: Global, session: &mut Session, step: &Step) -> bool {

@@ -1,7 +1,7 @@
 //! Calls of `live_fleet` that ask questions.
 use crate::devices::finds_conflicts;
 use crate::fleets::{Start, begun, same_fleet};
-use live_fleet::{Fleet, audited, holding, knowing, lacking, pull_moves, selected};
+use live_fleet::{Fleet, holding, knowing, lacking, pull_moves, selected};
 use photo_device::Device;
 use photo_filter_rules::Filter;
 use photo_record::PicNo;
@@ -40,7 +40,6 @@ fn asks(alloc: Global, fleet: &Fleet, call: &str) -> Option<Option<bool>> {
         "Device::conflicts" => Some(finds_conflicts(alloc, first)),
         "selected" => Some(selects(alloc, first)),
         "pull_moves" => Some(moves(alloc, second, first)),
-        "audited" => Some(audits(alloc, fleet)),
         _ => of_picture(alloc, fleet, call),
     }
 }
@@ -87,13 +86,6 @@ fn moves(alloc: Global, target: &Device, source: &Device) -> Option<bool> {
     };
     drop(moves);
     right
-}
-
-fn audits(alloc: Global, fleet: &Fleet) -> Option<bool> {
-    mark(alloc);
-    let answer = audited(alloc, fleet);
-    mark(alloc);
-    answer.ok()
 }
 
 fn holds(alloc: Global, fleet: &Fleet, picture: PicNo) -> Option<bool> {

@@ -1,14 +1,12 @@
 //! The calls of `live_fleet` that ask, on a fleet whose first device has made many versions.
 use crate::told::tell;
-use live_fleet::{Fleet, audited, holding, knowing, lacking, pull_moves, selected};
+use live_fleet::{Fleet, holding, knowing, lacking, pull_moves, selected};
 use photo_device::Device;
 use photo_record::PicNo;
 use tool_value_refusals::filter_of;
 
 /// Makes them.
 pub fn make(rt: HostRuntime, fleet: &Fleet) {
-    let done = audited(rt.alloc(), fleet).is_ok();
-    tell(rt, "live_fleet::audited", done);
     if let Some(picture) = PicNo::new(1) {
         of_picture(rt, fleet, picture);
     }
