@@ -8,6 +8,5 @@ mod AlongScripts
 mod Sorted
 mod Shown
 mod Holders
-mod SaysYes
 mod WorkedQuestions
 pub mod Due
