@@ -1,6 +1,7 @@
 pub mod Limits
 pub mod Coding
 pub mod Lines
+pub mod FaultTexts
 pub mod Fields
 pub mod Earlier
 pub mod Saying

@@ -48,6 +48,7 @@ fn of_library(alloc: Global, library: &str, call: &str) -> Option<Verdict> {
 
 fn of_scripts(alloc: Global, library: &str, call: &str) -> Option<Verdict> {
     match library {
+        "photo_pull" if call == "stage_pull" => pulls::verdict(alloc, pulls::Call::Stage),
         "photo_pull" if call == "pull" => pulls::verdict(alloc, pulls::Call::Pull),
         "photo_pull" if call == "preview" => pulls::verdict(alloc, pulls::Call::Preview),
         "photo_device" => devices::verdict(alloc, call),

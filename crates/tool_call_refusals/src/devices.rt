@@ -38,6 +38,7 @@ fn verdict_on_others(alloc: Global, call: &str) -> Option<Verdict> {
         "Device::unknown_by" => on_device(alloc, 2, Call::AskLent),
         "Device::narrow" => on_device(alloc, 2, Call::Narrow),
         "Device::refilter" => on_device(alloc, 2, Call::Refilter),
+        "Device::begin" => on_device(alloc, 2, Call::Begin),
         "Device::conflicts" => questions::verdict(alloc, call),
         "Held::try_clone" => on_device(alloc, 1, Call::CopyHeld),
         "SharedHeld::new" => on_device(alloc, 1, Call::Share),
@@ -59,6 +60,7 @@ enum Call {
     AskLent,
     Narrow,
     Refilter,
+    Begin,
     CopyHeld,
     Share,
     CopyShared,
@@ -96,7 +98,8 @@ fn beside_twin(alloc: Global, device: &mut Device, count: u8, call: Call) -> Opt
 fn on_twins(alloc: Global, device: &mut Device, twin: &Device, call: Call) -> Option<Verdict> {
     match call {
         Call::Narrow => narrow(alloc, device, twin),
-        Call::Refilter => refilter(alloc, device, twin),
+        Call::Refilter => refilter(alloc, device, twin, 1),
+        Call::Begin => refilter(alloc, device, twin, 3),
         call => {
             let right = calls(alloc, device, call);
             Some(judged(right, same_device(device, twin)))
@@ -420,25 +423,35 @@ fn narrows(alloc: Global, device: &mut Device, filter: Filter, twin: &Device) ->
     verdict
 }
 
-fn refilter(alloc: Global, device: &mut Device, twin: &Device) -> Option<Verdict> {
+fn refilter(alloc: Global, device: &mut Device, twin: &Device, epoch: u32) -> Option<Verdict> {
     match filter_of(alloc, "rating >= 5") {
-        Some(filter) => refilters(alloc, device, filter, twin),
+        Some(filter) => refilters(alloc, device, filter, twin, epoch),
         None => None,
     }
 }
 
-// Gives a device in its first epoch a filter that matches the first of its two versions.
-fn refilters(alloc: Global, device: &mut Device, filter: Filter, twin: &Device) -> Option<Verdict> {
-    if device.author().epoch() != 0 {
+// Gives a device in its first epoch a filter that matches the first of its two versions: `refilter` begins the next epoch, and
+// `begin` a later one.
+fn refilters(
+    alloc: Global,
+    device: &mut Device,
+    filter: Filter,
+    twin: &Device,
+    epoch: u32,
+) -> Option<Verdict> {
+    if device.author().epoch() != 0 || epoch == 0 {
         drop(filter);
         return None;
     }
     mark(alloc);
-    let sizes = device.refilter(filter);
+    let sizes = match epoch {
+        1 => device.refilter(filter),
+        _ => device.begin(epoch, filter),
+    };
     mark(alloc);
     let verdict = match &sizes {
         Ok(sizes) => judged(
-            Some(*sizes == (1, 1) && has_begun_anew(alloc, device)),
+            Some(*sizes == (1, 1) && has_begun_anew(alloc, device, epoch)),
             true,
         ),
         Err((filter, _)) => judged(None, is_as_before(device, twin) && is_five(alloc, filter)),
@@ -447,10 +460,10 @@ fn refilters(alloc: Global, device: &mut Device, filter: Filter, twin: &Device) 
     Some(verdict)
 }
 
-// Whether a device is in its second epoch, has made nothing in it, and knows each of its two versions only of the version's
+// Whether a device is in that epoch, has made nothing in it, and knows each of its two versions only of the version's
 // picture.
-fn has_begun_anew(alloc: Global, device: &Device) -> bool {
-    device.author() == Author::at(0, 1)
+fn has_begun_anew(alloc: Global, device: &Device, epoch: u32) -> bool {
+    device.author() == Author::at(0, epoch)
         && device.counter() == 0
         && has_moved(device)
         && device.knowledge().fragments() == 3

@@ -7,7 +7,7 @@ ghost use Rattle.fleet_steps.specs.Between.{AreReady, MayPull};
 use crate::devices::same_devices;
 use fleet_steps::{Outcome, run_between, run_on, run_plain, run_pull};
 use photo_device::Device;
-use photo_pull::{PullCounts, preview, pull};
+use photo_pull::{PullCounts, preview, pull, stage_pull};
 use photo_script::{Command, Report, Script, read_script};
 use std::alloc::Global;
 use tool_value_refusals::{Verdict, judged, mark};
@@ -53,6 +53,8 @@ fn on_twins(alloc: Global, devices: &mut [Device], twins: &[Device], call: Call)
 /// The calls that pull.
 #[derive(Clone, Copy)]
 pub enum Call {
+    /// `photo_pull::stage_pull`
+    Stage,
     /// `photo_pull::pull`
     Pull,
     /// `photo_pull::preview`
@@ -186,11 +188,25 @@ fn on_two(alloc: Global, target: &mut Device, source: &mut Device, call: Call) -
     requires { MayPull target.old source.old }
 {
     match call {
+        Call::Stage => stages(alloc, target, source),
         Call::Pull => pulls_from(alloc, target, source),
         Call::Preview => previews(alloc, target, source),
         Call::RunBetween => runs_between(alloc, target, source),
         _ => runs_pull(alloc, target, source),
     }
+}
+
+// Whether the pull is staged, the target still holds what it held, and a commit makes the pull.
+fn stages(alloc: Global, target: &mut Device, source: &Device) -> Option<bool>
+    requires { MayPull target.old source.now }
+{
+    mark(alloc);
+    let found = stage_pull(alloc, target, source);
+    mark(alloc);
+    let found = found.ok()?;
+    let staged = found.counts == COUNTS && target.staged() && !has_taken(target);
+    found.commit(target);
+    Some(staged && !target.staged() && has_taken(target))
 }
 
 fn pulls_from(alloc: Global, target: &mut Device, source: &mut Device) -> Option<bool>

@@ -101,7 +101,9 @@ fn has_last(device: &Device) -> bool {
     let (Some(picture), Some(version)) = (PicNo::new(300), Version::new(Author::new(0), 300)) else {
         return false;
     };
-    device.held(version).is_some() && device.held_of(picture, version).is_some()
+    device.holds(picture)
+        && device.held(version).is_some()
+        && device.held_of(picture, version).is_some()
 }
 
 fn knows_twin(alloc: Global, device: &mut Device, times: u32) -> Option<bool> {

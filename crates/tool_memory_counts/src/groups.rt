@@ -1,5 +1,5 @@
 //! Groups of calls by their names.
-use crate::{copies, devices, filters, fleets, growing, ledgers, runs, scripts, staging};
+use crate::{copies, devices, filters, fleets, growing, ledgers, pulls, runs, scripts, staging};
 use std::alloc::Global;
 use std::sync::Wait;
 use tool_value_counts::answer_on_values;
@@ -34,6 +34,7 @@ fn of_scripts(alloc: Global, group: &str, times: u32) -> Option<bool> {
         "same_words" => scripts::answer_same_words(alloc, times),
         "device_copy" => copies::answer_device(alloc, times),
         "fleet_copy" => copies::answer_fleet(alloc, times),
+        "pull_commit" => pulls::answer(alloc, times),
         "workers" => Some(runs::answer_workers(times)),
         "growing" => growing::answer(alloc, times),
         "live" => growing::answer_live(alloc, times),

@@ -11,6 +11,7 @@ mod groups;
 mod growing;
 mod held;
 mod ledgers;
+mod pulls;
 mod runs;
 mod scripts;
 mod staging;

@@ -152,6 +152,12 @@ fn refilter(rt: HostRuntime, device: &mut Device) {
             tell(rt, "photo_device::Device::refilter", done);
         }
     }
+    if device.author().epoch() < u32::MAX {
+        if let Some(filter) = filter_of(rt.alloc(), "rating >= 5") {
+            let done = device.begin(u32::MAX, filter).is_ok();
+            tell(rt, "photo_device::Device::begin", done);
+        }
+    }
 }
 
 fn stage(rt: HostRuntime, device: &mut Device)

@@ -8,7 +8,7 @@ ghost use Rattle.fleet_steps.specs.Between.{AreReady, MayPull};
 use crate::told::tell;
 use fleet_steps::{Outcome, run_between, run_on, run_plain, run_pull};
 use photo_device::Device;
-use photo_pull::{preview, pull};
+use photo_pull::{preview, pull, stage_pull};
 use photo_script::{Command, Script, read_script};
 use std::alloc::{AllocError, Global};
 
@@ -107,6 +107,7 @@ fn between(rt: HostRuntime, target: &Device, source: &Device)
     let done = target.unknown_by(rt.alloc(), source.out()).is_ok();
     tell(rt, "photo_device::Device::unknown_by", done);
     on_copy(rt, target, source, Call::Ask);
+    on_copy(rt, target, source, Call::Stage);
     on_copy(rt, target, source, Call::Pull);
     on_copy(rt, target, source, Call::RunPull);
     on_copy(rt, target, source, Call::RunBetween);
@@ -116,6 +117,7 @@ fn between(rt: HostRuntime, target: &Device, source: &Device)
 #[derive(Clone, Copy)]
 enum Call {
     Ask,
+    Stage,
     Pull,
     RunPull,
     RunBetween,
@@ -130,6 +132,7 @@ fn on_copy(rt: HostRuntime, target: &Device, source: &Device, call: Call)
     if let Ok(copy) = &mut made {
         match call {
             Call::Ask => ask(rt, copy, source),
+            Call::Stage => stage(rt, copy, source),
             call => on_copies(rt, copy, source, call),
         }
     }
@@ -139,6 +142,16 @@ fn on_copy(rt: HostRuntime, target: &Device, source: &Device, call: Call)
 fn ask(rt: HostRuntime, target: &mut Device, source: &Device) {
     let done = target.unknown_of(rt.alloc(), source.out()).is_ok();
     tell(rt, "photo_device::Device::unknown_of", done);
+}
+
+fn stage(rt: HostRuntime, target: &mut Device, source: &Device)
+    requires { MayPull target.old source.now }
+{
+    let made = stage_pull(rt.alloc(), target, source);
+    tell(rt, "photo_pull::stage_pull", made.is_ok());
+    if let Ok(found) = made {
+        found.commit(target);
+    }
 }
 
 // Makes a call on the target and on a copy of the source.
