@@ -1,5 +1,7 @@
 //! A list in blocks, so that an insertion or a removal moves few elements. Its invariant: **the blocks joined are the
 //! list**, and no block is empty.
+//!
+//! Tests: `test_values`.
 #![tactic(auto)]
 
 mod block_list;

@@ -1,5 +1,7 @@
 //! Runs scripts, on one thread or by several workers, from a reader's bytes to the bytes of the reports. Its invariant: **what is
 //! written is the texts of the right reports**.
+//!
+//! Tests: `test_runs`.
 #![tactic(auto)]
 
 pub mod laws;

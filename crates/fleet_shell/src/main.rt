@@ -1,5 +1,7 @@
 //! A fleet to talk to: a script is given line by line, and each report is told at once. Its invariant: **the lines that were taken
 //! are a script, and what was told of each is what its run adds to the reports**. A line that is refused changes nothing.
+//!
+//! Tests: `tools/gate/check-shell`.
 #![tactic(auto)]
 
 mod answer;

@@ -1,5 +1,7 @@
 //! Runs one command on devices, and whole scripts on one thread. Its invariant: **every run is sound and keeps what is
 //! current**. All ways to run use the one call that runs a command.
+//!
+//! Tests: `test_runs`.
 #![tactic(auto)]
 
 mod command;

@@ -1,6 +1,8 @@
 //! Shows scripts of a photo collection to people: where each picture is once a script has run, its run as a chart or a page, and
 //! what is wrong with a script that is refused. Its invariant: **a status says what was shown**: the view that the words ask for,
 //! whole, which the libraries of views make; else nothing but why.
+//!
+//! Tests: `tools/gate/check-view`.
 #![tactic(auto)]
 
 mod helps;

@@ -1,5 +1,7 @@
 //! Runs scripts by several workers: the first on the calling thread, each other one on a thread of its own. Its invariant: **no
 //! two workers have one device** at a time.
+//!
+//! Tests: `test_runs`.
 #![tactic(auto)]
 
 mod batch;

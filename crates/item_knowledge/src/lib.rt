@@ -8,6 +8,8 @@
 //! In memory the star stands once, and a fragment's row has only the bounds that exceed the star's. An index leads from each
 //! listed picture to its fragment. What is staged stands in spare rows of the same form. It isn't known before it is committed,
 //! and a refusal leaves nothing staged.
+//!
+//! Tests: `test_values`, `test_devices`.
 #![tactic(auto)]
 
 mod bound_filter;

@@ -2,6 +2,8 @@
 //! **every fleet came about by commands** (`CameAbout`), so its devices are sound and no current version is lost. No question
 //! changes anything. A [`Session`] is a fleet whose calls have no precondition: **after a refusal the fleet is as it was**, and
 //! the answer says why.
+//!
+//! Tests: `test_batches`, `test_saving`.
 #![tactic(auto)]
 
 mod answer;

@@ -1,5 +1,7 @@
 //! Which commands of a script may run side by side, and in which orders they may run. Invariant: **each command is in the least
 //! batch that any schedule allows, and a plan has the fewest batches** (`IsPlan`).
+//!
+//! Tests: `test_batches`.
 #![tactic(auto)]
 
 mod batches;

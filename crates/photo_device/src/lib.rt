@@ -3,6 +3,8 @@
 //! Its invariant is `IsDevice`. **A device knows all that it holds, with its history; of its own author it knows
 //! exactly what it made.** It knows nothing of its own later epochs. It holds no version twice. Of the held version's own
 //! author, its history has exactly the earlier versions.
+//!
+//! Tests: `test_devices`.
 #![tactic(auto)]
 
 mod cached_knowledge;

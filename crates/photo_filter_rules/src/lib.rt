@@ -1,5 +1,7 @@
 //! Filters at work: which records a filter matches, and which filter covers which. Invariant: **a filter's alternatives are its
 //! tree's**, and no part of the tree is too wide. Matching and covering use the alternatives.
+//!
+//! Tests: `test_values`.
 #![tactic(auto)]
 
 mod alternative;

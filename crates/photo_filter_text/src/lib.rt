@@ -1,5 +1,7 @@
 //! The filter language: the trees of filters, reading them from text, and printing them. Invariant: **a tree that is read is
 //! the one that the grammar gives its tokens**, and a printed text has the tree that was printed.
+//!
+//! Tests: `test_values`.
 #![tactic(auto)]
 
 mod fault;

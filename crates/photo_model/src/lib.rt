@@ -1,5 +1,7 @@
 //! Devices as definitions see them: entries, supersession, making, narrowing, refiltering, conflicts and pulls. The crate has
 //! definitions and laws only; it uses no code that carries them out.
+//!
+//! Tests: `test_list_device`.
 #![tactic(auto)]
 
 mod counts;

@@ -1,5 +1,7 @@
 //! A pull: a device takes and learns from another what it doesn't know. Its invariant: **whatever may be refused comes before
 //! either device changes**.
+//!
+//! Tests: `test_scripts`.
 #![tactic(auto)]
 
 mod change;

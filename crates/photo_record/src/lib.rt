@@ -1,5 +1,7 @@
 //! Ratings, days, picture numbers, words and records: the values of a photo collection. Invariant: **each value is one that a
 //! text can denote**. Numbers and days are in range, words are in form C, and sets of words are in order.
+//!
+//! Tests: `test_values`.
 #![tactic(auto)]
 
 mod day;

@@ -1,5 +1,7 @@
 //! Reports on the commands of a script, and their texts. Invariant: **a report's text is the definition's, and each command has
 //! at most one right answer** (`Tells`). Scripts and their reader are re-exported from `script_reader`.
+//!
+//! Tests: `test_scripts`.
 #![tactic(auto)]
 
 mod conflict_report;

@@ -1,5 +1,7 @@
 //! Runs scripts of a photo collection and prints the reports, or says which commands can run at once. **Its words, files and
 //! outputs are the system's**; `photofleet_cli` does the rest.
+//!
+//! Tests: those in `src/tests.rt`.
 #![tactic(auto)]
 
 mod arguments;

@@ -1,5 +1,7 @@
 //! The proved core for C, Rust and Python: a whole script in one call, or a session line by line. A call's status tells what it
 //! did to the caller's memory; it touched nothing else there.
+//!
+//! Tests: `tools/gate/check-c`.
 #![tactic(auto)]
 
 mod exports;

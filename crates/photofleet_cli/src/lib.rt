@@ -1,5 +1,7 @@
 //! The program, from the words of its command line to its exit status, over any files and writers. Its invariant: **a status
 //! says what was written**, for every opener and writer that state their bytes.
+//!
+//! Tests: `photofleet`.
 #![tactic(auto)]
 
 mod helps;

@@ -1,6 +1,8 @@
 //! Draws the run of a script of a photo collection: as a chart for a browser, and as a page to step through. Its invariant: **what
 //! is shown comes from public calls of the libraries alone**, and a script's text stands in a chart or a page as text, never as
 //! marks of XML, HTML or JSON.
+//!
+//! Tests: `tools/gate/check-view`.
 #![tactic(auto)]
 
 mod chart;

@@ -1,5 +1,7 @@
 //! What all programs share: the bytes of a file, exit statuses, and the answers to words that ask for no work. Its invariant:
 //! **a status is that of what was done**.
+//!
+//! Tests: `tools/gate/check-view`, `tools/gate/check-shell`.
 #![tactic(auto)]
 
 mod refusals;

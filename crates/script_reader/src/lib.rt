@@ -1,6 +1,8 @@
 //! Reads scripts of a photo collection: devices, and commands on them in order. Its invariant (`IsScript`): **a script's commands
 //! name its devices**, two different ones where they name two, **and its records are in range**. The numbers of devices and of
 //! commands are within the limits.
+//!
+//! Tests: `test_scripts`.
 #![tactic(auto)]
 
 mod command;

@@ -1,5 +1,7 @@
 //! The text of a script, with the law that reading it gives the script back. So a program can save what a user did and load it
 //! by running the script. A text that is returned reads as its script.
+//!
+//! Tests: `test_scripts`, `test_saving`.
 #![tactic(auto)]
 
 mod field;

@@ -1,6 +1,8 @@
 //! Shows people where each picture of a photo collection is once a script has run, what happened to a picture, and why a device
 //! lacks it. Its invariant: **what is shown comes from public calls of the libraries alone**, of devices as they are before and
 //! after a command.
+//!
+//! Tests: `tools/gate/check-view`.
 #![tactic(auto)]
 
 mod current;

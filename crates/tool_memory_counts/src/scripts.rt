@@ -1,7 +1,7 @@
 //! Calls on a script.
 use crate::runs;
 use photo_script::{CommandKind, Report, Script, devices_of, kind_of, read_script, totals_of};
-use script_reader::{is_name, read_picture};
+use script_reader::{LineFault, ScriptFault, is_name, read_picture};
 use std::alloc::{AllocError, Global};
 
 // A script of two devices and four commands.
@@ -30,7 +30,10 @@ fn answer_of_group(alloc: Global, script: &Script, group: &str, times: u32) -> O
 
 fn answer_of(script: &Script, times: u32) -> bool {
     for _ in 0..times {
-        if !has_devices(script) || !has_commands(script) || !has_totals(script) || !has_fields() {
+        if !has_devices(script) || !has_commands(script) || !has_totals(script) {
+            return false;
+        }
+        if !has_fields() || !has_fault_texts() {
             return false;
         }
     }
@@ -42,6 +45,11 @@ fn has_fields() -> bool {
         && !is_name("Cam")
         && matches!(read_picture("70"), Some(picture) if picture.value() == 70)
         && read_picture("070").is_none()
+}
+
+fn has_fault_texts() -> bool {
+    let fault = LineFault::BadRating;
+    fault.text() == "F12 BadRating" && ScriptFault::Line { line: 3, fault }.text() == fault.text()
 }
 
 fn has_devices(script: &Script) -> bool {

@@ -38,6 +38,8 @@
 //! - [`Share::join`] requires that both shares together were given at most 100,000 commands of each kind. A caller that splits
 //!   off a share and joins it again gets this from [`Share::left`], called before the split, whose contract says it of every
 //!   share.
+//!
+//! Tests: `test_batches`.
 #![tactic(auto)]
 
 mod blanks;
