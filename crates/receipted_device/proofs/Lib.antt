@@ -1,0 +1,7 @@
+pub mod SameReceipts
+pub mod Events
+pub mod Adding
+pub mod Settles
+pub mod Pulls
+pub mod Ready
+pub mod Obsolete
