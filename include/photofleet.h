@@ -78,7 +78,7 @@ uint8_t photofleet_open(photofleet_session *session, const uint8_t *lines, size_
    empty line or of a remark.
    BAD_SESSION: it is closed. '*written' is 0, and 'out' is as it was.
    BAD_SCRIPT: the line in 'out' tells why the session's lines and this one are no script, as above.
-   NO_MEMORY: the line in 'out' tells that, as above. The session's lines and this one are within a script's limit, and UTF-8.
+   NO_MEMORY: the line in 'out' tells that, as above. The session's lines and this one are a script.
    TOO_SMALL: '*written' tells how many bytes the text takes, and 'out' is as it was.
    After any status but DONE the session is as it was: the line can be given again, or another one. */
 uint8_t photofleet_give(photofleet_session *session, const uint8_t *line, size_t line_length, uint8_t *out, size_t out_length, size_t *written);

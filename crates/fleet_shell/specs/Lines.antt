@@ -15,6 +15,11 @@ abbrev pub text_of : Option (List ℕ) → List ℕ
 text_of None = []
 text_of (Some text) = text
 
+-- what the run of the lines prints, which is nothing where there are none
+abbrev pub Prints : Option (List ℕ) → List ℕ → Type 0
+Prints None told = told ≡ []
+Prints (Some text) told = IsPrinted text told
+
 -- what is told of a line behind the lines: what the run of all of them prints behind what it printed before
 abbrev pub Tells : Option (List ℕ) → List ℕ → List ℕ → Type 0
 Tells None line told = IsPrinted line told

@@ -1,11 +1,16 @@
 //! The lines that were taken, and the fleet that shows their run.
-ghost use Rattle.std.specs.Prelude.{◌≡◌, ◌≢◌, ◌≤◌, ◌<◌, ◌-◌, ℕ, None, Some, drop, length, slice_index, IfErr, IfOk, MatchOption, OnErr, OnOk};
+ghost use Rattle.std.specs.Prelude.{◌≡◌, ◌≢◌, ◌≤◌, ◌<◌, ◌-◌, ℕ, None, Some, drop, length, slice_index, Ok, IfErr, IfOk, IfSome, MatchOption, OnErr, OnOk};
 ghost use Rattle.std.specs.Io.KnownBytes.{Appends};
+ghost use Rattle.fleet_model.specs.Contents.{Contents};
+ghost use Rattle.script_reader.specs.Reading.{script_of};
+ghost use Rattle.live_script.specs.Live.{ShowsRun};
 ghost use Rattle.live_script.specs.Printed.{IsPrinted};
-ghost use Rattle.live_script.specs.Refused.{IsOfFault, IsWhy};
-ghost use Rattle.fleet_shell.specs.Lines.{AreOf, IsLast, IsWhyOf, Tells, bytes_of, text_of, with_line};
+ghost use Rattle.live_script.specs.Refused.{IsWhy};
+ghost use Rattle.fleet_shell.specs.Lines.{AreOf, IsLast, IsWhyOf, Prints, Tells, bytes_of, text_of, with_line};
 
-use live_script::{LiveScript, Refusal, plain_text};
+use live_fleet::Fleet;
+use live_script::{LiveScript, Refusal};
+use photo_script::Script;
 use std::alloc::{AllocError, Global};
 use std::io::{self, Write};
 
@@ -23,36 +28,48 @@ impl Lines {
         Lines { live: None }
     }
 
-    /// The lines of a file with these bytes, of which each command has run. An LF at the end begins no further line.
-    pub fn of(alloc: Global, bytes: &[u8]) -> Result<Lines, Refusal>
-        ensures lines { IfOk result (λ lines. AreOf bytes.now lines.live) }
+    /// The lines of a file with these bytes, and what their run prints. An LF at the end begins no further line.
+    pub fn of(alloc: Global, bytes: &[u8]) -> Result<(Lines, Vec<u8>), Refusal>
+        ensures lines { IfOk result (λ begun. AreOf bytes.now begun.0.live) }
+        ensures told { IfOk result (λ begun. Prints begun.0.live begun.1.items) }
         ensures refused { IfErr result (IsWhyOf bytes.now) }
     {
         match bytes.split_last() {
-            None => Ok(Lines::none()),
+            None => Ok((Lines::none(), Vec::new(alloc))),
             Some((b'\n', front)) => Lines::with_text(alloc, front),
             Some(_) => Lines::with_text(alloc, bytes),
         }
     }
 
-    // The lines of a text, which has one at least.
-    fn with_text(alloc: Global, text: &[u8]) -> Result<Lines, Refusal>
-        ensures lines { IfOk result (λ lines. lines.live ≡ Some text.now) }
+    // The lines of a text, which has one at least, and what their run prints.
+    fn with_text(alloc: Global, text: &[u8]) -> Result<(Lines, Vec<u8>), Refusal>
+        ensures lines { IfOk result (λ begun. begun.0.live ≡ Some text.now) }
+        ensures told { IfOk result (λ begun. IsPrinted text.now begun.1.items) }
         ensures refused { IfErr result (IsWhy text.now) }
     {
-        match LiveScript::of(alloc, text) {
-            Ok(live) => Ok(Lines { live: Some(live) }),
+        match LiveScript::begin(alloc, text) {
+            Ok((live, told)) => Ok((Lines { live: Some(live) }, told)),
             Err(refusal) => Err(refusal),
         }
     }
 
-    /// The text of the lines.
-    pub fn text(&self) -> &[u8]
-        ensures { result.now ≡ text_of self.now.live }
+    /// The script of the lines, if there are any.
+    pub fn script(&self) -> Option<&Script>
+        ensures { MatchOption result (self.now.live ≡ None) (λ script. script_of (text_of self.now.live) ≡ Ok script.now) }
     {
         match &self.live {
-            Some(live) => live.text(),
-            None => &[],
+            Some(live) => Some(live.script()),
+            None => None,
+        }
+    }
+
+    /// The fleet that ran the lines, if it is there.
+    pub fn fleet(&self) -> Option<&Fleet>
+        ensures { IfSome result (λ fleet. (script : Contents) → script_of (text_of self.now.live) ≡ Ok script → ShowsRun script fleet.now) }
+    {
+        match &self.live {
+            Some(live) => live.fleet(),
+            None => None,
         }
     }
 
@@ -73,12 +90,12 @@ impl Lines {
     pub fn give(&mut self, alloc: Global, line: &[u8]) -> Result<Vec<u8>, Refusal>
         ensures told { IfOk result (λ text. Tells self.old.live line.now text.items) }
         ensures taken { OnOk result (self.new.live ≡ Some (with_line self.old.live line.now)) }
-        ensures refused { IfErr result (IsOfFault (with_line self.old.live line.now)) }
+        ensures refused { IfErr result (IsWhy (with_line self.old.live line.now)) }
         ensures kept { OnErr result (self.new.live ≡ self.old.live) }
     {
         match &mut self.live {
             Some(live) => give_behind(live, line),
-            None => match first_line(alloc, line) {
+            None => match LiveScript::begin(alloc, line) {
                 Ok((live, told)) => {
                     self.live = Some(live);
                     Ok(told)
@@ -123,27 +140,11 @@ impl Lines {
 fn give_behind(live: &mut LiveScript, line: &[u8]) -> Result<Vec<u8>, Refusal>
     ensures told { IfOk result (λ text. Tells (Some live.old) line.now text.items) }
     ensures taken { OnOk result (live.new ≡ with_line (Some live.old) line.now) }
-    ensures refused { IfErr result (IsOfFault (with_line (Some live.old) line.now)) }
+    ensures refused { IfErr result (IsWhy (with_line (Some live.old) line.now)) }
     ensures kept { OnErr result (live.new ≡ live.old) }
 {
     match live.give(line, usize::MAX) {
         Ok(told) => Ok(told.text),
-        Err(refusal) => Err(refusal),
-    }
-}
-
-// A script of one line, and what its run prints.
-fn first_line(alloc: Global, line: &[u8]) -> Result<(LiveScript, Vec<u8>), Refusal>
-    ensures live { IfOk result (λ first. first.0 ≡ line.now) }
-    ensures told { IfOk result (λ first. IsPrinted line.now first.1.items) }
-    ensures refused { IfErr result (IsOfFault line.now) }
-{
-    let told = match plain_text(alloc, line) {
-        Ok(text) => text.into_bytes(),
-        Err(refusal) => return Err(refusal),
-    };
-    match LiveScript::of(alloc, line) {
-        Ok(live) => Ok((live, told)),
         Err(refusal) => Err(refusal),
     }
 }

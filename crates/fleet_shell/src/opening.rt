@@ -1,6 +1,6 @@
 //! The lines of a file, before the talk begins.
 use crate::lines::Lines;
-use live_script::{Refusal, plain_text};
+use live_script::Refusal;
 use run_error::RunError;
 use script_programs::{Unread, read_file};
 use std::alloc::Global;
@@ -38,18 +38,15 @@ pub fn opened<F: Files, W: Write>(
 
 // The lines of a file with these bytes, whose reports are written.
 fn told_lines<W: Write>(alloc: Global, bytes: &[u8], out: &mut W) -> Result<Lines, RunError> {
-    let told = match plain_text(alloc, bytes) {
-        Ok(told) => told,
-        Err(refusal) => return Err(error_of(refusal)),
-    };
-    let lines = match Lines::of(alloc, bytes) {
-        Ok(lines) => lines,
-        Err(refusal) => return Err(error_of(refusal)),
-    };
-    if out.write_all(told.as_bytes()).is_err() || out.flush().is_err() {
-        return Err(RunError::Write);
+    match Lines::of(alloc, bytes) {
+        Ok((lines, told)) => {
+            if out.write_all(&told).is_err() || out.flush().is_err() {
+                return Err(RunError::Write);
+            }
+            Ok(lines)
+        }
+        Err(refusal) => Err(error_of(refusal)),
     }
-    Ok(lines)
 }
 
 fn error_of(refusal: Refusal) -> RunError {

@@ -2,8 +2,9 @@
 use crate::helps::WORDS;
 use crate::kind::{Kind, without_return};
 use crate::lines::Lines;
-use photo_script::{Script, read_script};
-use script_views::{Wanted, push_story, push_whereabouts};
+use live_fleet::Fleet;
+use photo_script::{GrowingScript, Script};
+use script_views::{Wanted, push_story, push_whereabouts, push_whereabouts_in};
 use std::alloc::{AllocError, Global};
 use std::fs::File;
 use std::io::{self, ErrorKind};
@@ -45,16 +46,26 @@ fn whereabouts(alloc: Global, lines: &Lines, line: &str) -> Result<String, Alloc
                 commands: u32::MAX,
                 width: 0,
             };
-            let script = script_of(alloc, lines)?;
-            whereabouts_text(alloc, &script, &wanted)
+            let none = GrowingScript::new(alloc);
+            let script = lines.script().unwrap_or(none.script());
+            whereabouts_text(alloc, script, lines.fleet(), &wanted)
         }
         Asked::Odd(word) => odd(alloc, "where", word),
     }
 }
 
-fn whereabouts_text(alloc: Global, script: &Script, wanted: &Wanted) -> Result<String, AllocError> {
+// Where pictures are on the fleet that ran the lines. Where it isn't there, the lines run anew.
+fn whereabouts_text(
+    alloc: Global,
+    script: &Script,
+    fleet: Option<&Fleet>,
+    wanted: &Wanted,
+) -> Result<String, AllocError> {
     let mut text = String::new(alloc);
-    push_whereabouts(alloc, &mut text, script, wanted)?;
+    match fleet {
+        Some(fleet) => push_whereabouts_in(alloc, &mut text, script, fleet, wanted)?,
+        None => push_whereabouts(alloc, &mut text, script, wanted)?,
+    }
     Ok(text)
 }
 
@@ -69,19 +80,16 @@ fn story(alloc: Global, lines: &Lines, line: &str) -> Result<String, AllocError>
     }
 }
 
+// A story tells what each command did to a picture, so the lines run anew, and the devices are looked at before each command.
 fn story_of(alloc: Global, lines: &Lines, picture: u32) -> Result<String, AllocError> {
-    let script = script_of(alloc, lines)?;
-    let mut text = String::new(alloc);
-    push_story(alloc, &mut text, &script, picture)?;
-    Ok(text)
+    let none = GrowingScript::new(alloc);
+    story_text(alloc, lines.script().unwrap_or(none.script()), picture)
 }
 
-// The script of the lines. They are one, so its only error is want of memory.
-fn script_of(alloc: Global, lines: &Lines) -> Result<Script, AllocError> {
-    match read_script(alloc, lines.text()) {
-        Ok(script) => Ok(script),
-        Err(_) => Err(AllocError),
-    }
+fn story_text(alloc: Global, script: &Script, picture: u32) -> Result<String, AllocError> {
+    let mut text = String::new(alloc);
+    push_story(alloc, &mut text, script, picture)?;
+    Ok(text)
 }
 
 fn odd(alloc: Global, own: &str, word: &str) -> Result<String, AllocError> {

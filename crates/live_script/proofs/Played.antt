@@ -1,5 +1,5 @@
 -- A fleet that shows the run of a script, and what is told of it, with one line more.
-use Rattle.std.proofs.Common.{◌≡◌, ℕ, suc, ◌+◌, ◌-◌, true, List, [], ◌∷◌, ◌++◌, length, set, refl, sym, ap, ◌∙◌, subst, add-zero, append_assoc, length-append, arith}
+use Rattle.std.proofs.Common.{◌≡◌, ℕ, suc, ◌+◌, ◌-◌, List, [], ◌∷◌, ◌++◌, length, set, refl, sym, ap, ◌∙◌, subst, add-zero, append_assoc, length-append, arith}
 use Rattle.std.specs.Prelude.{Option, Some, Result, Ok, Err, IfSome, OnErr, slice_get, take}
 use Rattle.std.specs.List.{AllZip}
 use Rattle.std.proofs.lemmas.List.{append-nil, set-get_or, take_more}
@@ -10,19 +10,22 @@ use Rattle.photo_model.specs.Device.{ModelDevice, opening}
 use Rattle.photo_device.specs.Device.{Shows}
 use Rattle.fleet_model.specs.declared.command.Command.{Command}
 use Rattle.fleet_model.specs.declared.command.Command.TheVariants as command
+use Rattle.fleet_model.specs.declared.command.CommandKind.TheVariants.{Question}
 use Rattle.fleet_model.specs.Contents.{Contents, contents}
 use Rattle.fleet_model.specs.Answers.{Made, NotHeld, NotNarrower, Narrowed, Refiltered, Pulled, Preview, Listed, Conflicts, Knows}
 use Rattle.fleet_model.specs.Runs.{Fleet, device_at, run, reports_of}
 use Rattle.fleet_model.specs.Steps.{effect_on, devices_after}
 use Rattle.fleet_model.specs.Sound.{IsSoundThroughout}
+use Rattle.fleet_model.specs.Tallies.{kind_of}
 use Rattle.fleet_model.proofs.Zipped.{zip_push}
 use Rattle.script_reader.specs.Reading.{script_of}
 use Rattle.script_reader.specs.declared.growing.Said.{Said}
 use Rattle.script_reader.specs.declared.growing.Said.TheVariants as said
 use Rattle.photo_script.specs.Reports.{Answer, Plain, KnowledgeOf, Tells, text_of, texts_from}
+use Rattle.fleet_steps.specs.Outcomes.{AreRight}
 use Rattle.live_fleet.specs.Fleets.{KeptFleet, HasRun, IsAnswerTo}
 use Rattle.live_script.specs.Printed.{IsOutput, IsPrinted}
-use Rattle.live_script.specs.Live.{ComesBehind, IsAnswered, IsLast, IsStill, IsToldOf, ShowsRun, first_of, is_question}
+use Rattle.live_script.specs.Live.{ComesBehind, IsAnswered, IsLast, IsStill, IsToldOf, ShowsRun, first_of}
 use Rattle.live_script.proofs.Longer.{runs_longer, reports_longer, got_last}
 
 -- one command more
@@ -40,15 +43,19 @@ shows_more names filters commands c old new h ran same =
       long = same ∙ h.long;
     }
 
+pub right_more : (names : List (List ℕ)) (filters : List Tree) (commands : List Command) (c : Command) (old : KeptFleet) (answers : List Answer) (answer : Answer) → AreRight (contents names filters commands) answers
+    → ShowsRun (contents names filters commands) old → IsAnswerTo c old answer → AreRight (contents names filters (commands ++ c ∷ [])) (answers ++ answer ∷ [])
+right_more names filters commands c old answers answer right shown tells =
+    let before = run (contents names filters commands) in
+    subst (AllZip Tells (answers ++ answer ∷ [])) (sym (reports_longer names filters commands c)) (zip_push Tells answers (reports_of before) answer (effect_on before.devices c).report right (tells before shown.shown))
+
 pub answered_more : (names : List (List ℕ)) (filters : List Tree) (commands : List Command) (c : Command) (old : KeptFleet) (answer : Answer) → IsAnswered (contents names filters commands)
     → ShowsRun (contents names filters commands) old → IsAnswerTo c old answer → IsAnswered (contents names filters (commands ++ c ∷ []))
-answered_more names filters commands c old answer h shown tells =
-    let before = run (contents names filters commands) in
-    record {
-      answers = h.answers ++ answer ∷ [];
-      right = subst (AllZip Tells (h.answers ++ answer ∷ [])) (sym (reports_longer names filters commands c)) (zip_push Tells h.answers (reports_of before) answer (effect_on before.devices c).report h.right (tells before shown.shown));
-      each = length-append h.answers (answer ∷ []) ∙ ap (λ n. n + 1) h.each ∙ sym (length-append commands (c ∷ []));
-    }
+answered_more names filters commands c old answer h shown tells = record {
+  answers = h.answers ++ answer ∷ [];
+  right = right_more names filters commands c old h.answers answer h.right shown tells;
+  each = length-append h.answers (answer ∷ []) ∙ ap (λ n. n + 1) h.each ∙ sym (length-append commands (c ∷ []));
+}
 
 -- the texts speak of the devices alone, whatever the commands are
 same_text : (names : List (List ℕ)) (f g : List Tree) (a b : List Command) (n : ℕ) (answer : Answer) → text_of (contents names f a) n answer ≡ text_of (contents names g b) n answer
@@ -65,11 +72,11 @@ same_text names f g a b n (Plain (Conflicts k pictures)) = refl
 same_text names f g a b n (KnowledgeOf k fragments) = refl
 same_text names f g a b n (Plain (Knows known)) = refl
 
-same_texts : (names : List (List ℕ)) (f g : List Tree) (a b : List Command) (n : ℕ) (answers : List Answer) → texts_from (contents names f a) n answers ≡ texts_from (contents names g b) n answers
+pub same_texts : (names : List (List ℕ)) (f g : List Tree) (a b : List Command) (n : ℕ) (answers : List Answer) → texts_from (contents names f a) n answers ≡ texts_from (contents names g b) n answers
 same_texts names f g a b n [] = refl
 same_texts names f g a b n (answer ∷ more) = λ i. same_text names f g a b n answer i ++ same_texts names f g a b (n + 1) more i
 
-texts_push : (script : Contents) (n : ℕ) (xs : List Answer) (x : Answer) → texts_from script n (xs ++ x ∷ []) ≡ texts_from script n xs ++ text_of script (n + length xs) x
+pub texts_push : (script : Contents) (n : ℕ) (xs : List Answer) (x : Answer) → texts_from script n (xs ++ x ∷ []) ≡ texts_from script n xs ++ text_of script (n + length xs) x
 texts_push script n [] x = append-nil (text_of script n x) ∙ ap (λ k. text_of script k x) (sym (add-zero n))
 texts_push script n (y ∷ ys) x =
     let number : n + 1 + length ys ≡ n + suc (length ys) = omega arith in
@@ -80,18 +87,16 @@ texts_push script n (y ∷ ys) x =
 pub told_more : (names : List (List ℕ)) (filters : List Tree) (commands : List Command) (c : Command) (old : KeptFleet) (answer : Answer) (number : ℕ) (text : List ℕ) → IsAnswered (contents names filters commands)
     → ShowsRun (contents names filters commands) old → IsAnswerTo c old answer → number ≡ length (commands ++ c ∷ []) → text ≡ text_of (contents names filters (commands ++ c ∷ [])) number answer
     → IsToldOf (contents names filters commands) (contents names filters (commands ++ c ∷ [])) text
-unfolding answered_more
 told_more names filters commands c old answer number text h shown tells count is =
     let short : Contents = contents names filters commands in
     let longer : Contents = contents names filters (commands ++ c ∷ []) in
-    let more = answered_more names filters commands c old answer h shown tells in
     let place : 1 + length h.answers ≡ number = omega (arith, count, h.each, length-append commands (c ∷ [])) in
     record {
       before = texts_from short 1 h.answers;
       was = record { answers = h.answers; right = h.right; texts = refl };
       is = record {
         answers = h.answers ++ answer ∷ [];
-        right = more.right;
+        right = right_more names filters commands c old h.answers answer h.right shown tells;
         texts = ap (λ t. texts_from short 1 h.answers ++ t) is ∙ ap (λ t. t ++ text_of longer number answer) (same_texts names filters filters commands (commands ++ c ∷ []) 1 h.answers)
             ∙ ap (λ k. texts_from longer 1 h.answers ++ text_of longer k answer) (sym place) ∙ sym (texts_push longer 1 h.answers answer);
       };
@@ -102,7 +107,7 @@ told_more names filters commands c old answer number text h shown tells count is
 on_first : (ds : List ModelDevice) (k : ℕ) → set ds k (device_at ds k) ≡ ds
 on_first ds k = set-get_or ds k (opening (author k) All)
 
-question_devices : (ds : List ModelDevice) (c : Command) → is_question c ≡ true → devices_after ds c ≡ ds
+question_devices : (ds : List ModelDevice) (c : Command) → kind_of c ≡ Question → devices_after ds c ≡ ds
 question_devices ds (command.New k p r) h = cc
 question_devices ds (command.Edit k p r) h = cc
 question_devices ds (command.Remove k p) h = cc
@@ -115,7 +120,7 @@ question_devices ds (command.Conflicts k) h = on_first ds k
 question_devices ds (command.Knowledge k) h = on_first ds k
 question_devices ds (command.Knows k p v) h = on_first ds k
 
-question_entries : (ds : List ModelDevice) (c : Command) → is_question c ≡ true → (effect_on ds c).entries ≡ []
+question_entries : (ds : List ModelDevice) (c : Command) → kind_of c ≡ Question → (effect_on ds c).entries ≡ []
 question_entries ds (command.New k p r) h = cc
 question_entries ds (command.Edit k p r) h = cc
 question_entries ds (command.Remove k p) h = cc
@@ -128,7 +133,7 @@ question_entries ds (command.Conflicts k) h = refl
 question_entries ds (command.Knowledge k) h = refl
 question_entries ds (command.Knows k p v) h = refl
 
-shows_still : (script : Contents) (c : Command) (old new : KeptFleet) → is_question c ≡ true → HasRun c old new → length new.devices ≡ length old.devices → ShowsRun script old → ShowsRun script new
+shows_still : (script : Contents) (c : Command) (old new : KeptFleet) → kind_of c ≡ Question → HasRun c old new → length new.devices ≡ length old.devices → ShowsRun script old → ShowsRun script new
 shows_still script c old new asks ran same h =
     let before = run script in
     let shows = ran.shows before h.shown in
@@ -193,7 +198,7 @@ printed_live text script read sound h = (
 
 -- the first commands of a script
 
-next_commands : (script : Contents) (n k : ℕ) (c : Command) → slice_get script.commands k ≡ Some c → k ≡ n → first_of (n + 1) script ≡ contents script.names script.filters (take n script.commands ++ c ∷ [])
+pub next_commands : (script : Contents) (n k : ℕ) (c : Command) → slice_get script.commands k ≡ Some c → k ≡ n → first_of (n + 1) script ≡ contents script.names script.filters (take n script.commands ++ c ∷ [])
 next_commands script n k c here place =
     let found : slice_get script.commands n ≡ Some c = subst (λ i. slice_get script.commands i ≡ Some c) place here in
     ap (contents script.names script.filters) (take_more script.commands n c (slice_get_within script.commands n c found)

@@ -1,9 +1,10 @@
 -- Scripts that run as they grow.
-use Rattle.std.specs.Prelude.{◌≡◌, ◌<◌, ◌-◌, ℕ, Bool, true, false, List, ◌∷◌, ◌++◌, length, take, drop, slice_get, Option, Some, IfSome}
+use Rattle.std.specs.Prelude.{◌≡◌, ◌<◌, ◌≤◌, ◌-◌, ℕ, List, ◌∷◌, ◌++◌, length, take, drop, slice_get, Option, Some, IfSome}
 use Rattle.fleet_model.specs.declared.command.Command.{Command}
-use Rattle.fleet_model.specs.declared.command.Command.TheVariants as command
+use Rattle.fleet_model.specs.declared.command.CommandKind.TheVariants.{Question}
 use Rattle.fleet_model.specs.Contents.{Contents, contents}
 use Rattle.fleet_model.specs.Runs.{run}
+use Rattle.fleet_model.specs.Tallies.{kind_of}
 use Rattle.script_reader.specs.Growing.{Adds, IsGrown, script_in}
 use Rattle.script_reader.specs.declared.growing.GrowingScript.{GrowingScript}
 use Rattle.script_reader.specs.declared.growing.Said.{Said}
@@ -25,6 +26,11 @@ pub record IsTold (text longer told : List ℕ) : Type 0 where
   pub is : IsPrinted longer after
   pub behind : told ≡ drop (length before) after
 
+-- the fleet shows the run of the script
+pub record ShowsRun (script : Contents) (fleet : KeptFleet) : Type 0 where
+  pub shown : ShowsFleet fleet (run script)
+  pub long : length fleet.devices ≡ length script.names
+
 -- Machinery of the proofs, which only contracts of private functions cite
 
 -- the first so many commands of a script
@@ -36,11 +42,6 @@ pub record IsAnswered (script : Contents) : Type 0 where
   pub answers : List Answer
   pub right : AreRight script answers
   pub each : length answers ≡ length script.commands
-
--- the fleet shows the run of the script
-pub record ShowsRun (script : Contents) (fleet : KeptFleet) : Type 0 where
-  pub shown : ShowsFleet fleet (run script)
-  pub long : length fleet.devices ≡ length script.names
 
 -- the script has grown by the lines of the text, of which there is one at least, and the fleet shows its run, if it is there
 pub record IsLive (text : List ℕ) (script : GrowingScript) (fleet : Option KeptFleet) : Type 0 where
@@ -55,26 +56,17 @@ pub record IsToldOf (old new : Contents) (told : List ℕ) : Type 0 where
   pub was : IsOutput old before
   pub is : IsOutput new (before ++ told)
 
+-- a script that has grown by lines: those of the old one come first, and where it has commands, no device was added
+pub record IsLonger (old new : Contents) : Type 0 where
+  pub commands : length old.commands ≤ length new.commands
+  pub first : 0 < length old.commands → first_of (length old.commands) new ≡ old
+
 -- a line that says that came behind a script, of which the fleet shows the run, if it is there
 pub record ComesBehind (said : Said) (fleet : Option KeptFleet) (new : Contents) : Type 0 where
   pub old : Contents
   pub answered : IsAnswered old
   pub shown : IfSome fleet (ShowsRun old)
   pub adds : Adds said old new
-
--- a command that changes nothing
-abbrev pub is_question : Command → Bool
-is_question (command.New k picture record_) = false
-is_question (command.Edit k picture record_) = false
-is_question (command.Remove k picture) = false
-is_question (command.Pull target source) = false
-is_question (command.Narrow k filter) = false
-is_question (command.Refilter k filter) = false
-is_question (command.Preview target source) = true
-is_question (command.List k) = true
-is_question (command.Conflicts k) = true
-is_question (command.Knowledge k) = true
-is_question (command.Knows k picture v) = true
 
 -- the command is the last one of the script
 abbrev pub IsLast : Command → Contents → Type 0
@@ -84,4 +76,4 @@ IsLast c script = slice_get script.commands (length script.commands - 1) ≡ Som
 abbrev pub IsStill : Said → Contents → Type 0
 IsStill said.Nothing script = Unit {0}
 IsStill said.Device script = ⊥
-IsStill said.Command script = (c : Command) → IsLast c script → is_question c ≡ true
+IsStill said.Command script = (c : Command) → IsLast c script → kind_of c ≡ Question

@@ -2,12 +2,12 @@
 ghost use Rattle.std.specs.Prelude.{◌≡◌, ◌≤◌, ◌<◌, length, Some, IfOk, IfSome, IsTrue, OnOk, OnErr};
 ghost use Rattle.std.specs.Bool.{OnFalse, OnTrue};
 ghost use Rattle.script_reader.specs.declared.growing.Said.TheVariants as kind;
-ghost use Rattle.live_script.specs.Live.{ComesBehind, IsAnswered, IsStill, IsToldOf, ShowsRun, is_question};
+ghost use Rattle.live_script.specs.Live.{ComesBehind, IsAnswered, IsStill, IsToldOf, ShowsRun};
 
 use crate::live::Told;
 use crate::opening::fleet_of;
 use live_fleet::Fleet;
-use photo_script::{Command, Said, Script, report_text};
+use photo_script::{CommandKind, Said, Script, kind_of, report_text};
 use std::alloc::{AllocError, Global};
 
 // The room from which on a change runs on the fleet itself. In a script no name has more than 16 characters, so the text of a
@@ -201,25 +201,9 @@ fn is_still(script: &Script, said: Said) -> bool
     match said {
         Said::Nothing => true,
         Said::Device => false,
-        Said::Command => is_question(script.command(script.commands() as u32)),
-    }
-}
-
-// Whether a command changes nothing.
-fn is_question(command: &Command) -> bool
-    ensures { result ≡ is_question command.now }
-{
-    match command {
-        Command::Preview { .. }
-        | Command::List { .. }
-        | Command::Conflicts { .. }
-        | Command::Knowledge { .. }
-        | Command::Knows { .. } => true,
-        Command::New { .. }
-        | Command::Edit { .. }
-        | Command::Remove { .. }
-        | Command::Pull { .. }
-        | Command::Narrow { .. }
-        | Command::Refilter { .. } => false,
+        Said::Command => {
+            let command = script.command(script.commands() as u32);
+            matches!(kind_of(command), CommandKind::Question)
+        }
     }
 }

@@ -6,6 +6,6 @@ use photo_script::ScriptFault;
 pub enum Refusal {
     /// The lines are no script, or memory was refused while they were read.
     Script(ScriptFault),
-    /// Memory was refused before that or behind it.
+    /// The lines are a script, and memory was refused for its run or for its texts.
     NoMemory,
 }

@@ -2,7 +2,7 @@
 use Rattle.std.specs.Prelude.{◌≡◌, ◌⊎◌, ◌↔◌, ℕ, List, ◌∷◌, ◌++◌, Option, Some, None}
 use Rattle.live_script.specs.Live.{IsTold}
 use Rattle.live_script.specs.Printed.{IsPrinted}
-use Rattle.live_script.specs.Refused.{IsText}
+use Rattle.live_script.specs.Refused.{IsScript}
 use Rattle.photofleet_c.specs.declared.session.Session.{Session}
 use Rattle.photofleet_c.specs.Placed.{HasNoRoom, IsUntouched}
 use Rattle.photofleet_c.specs.Refused.{TellsFault, TellsWant}
@@ -34,7 +34,7 @@ pub record IsStep (kept : Option Session) (line : List ℕ) (next : Session) (te
 pub record TellsNoStep (session : Session) (line old new : List ℕ) (written status : ℕ) : Type 0 where
   pub which : (status ≡ 3) ⊎ ((status ≡ 4) ⊎ (status ≡ 5))
   pub fault : status ≡ 3 → TellsFault (with_line session line) old new written
-  pub want : status ≡ 4 → IsText (with_line session line) × TellsWant old new written
+  pub want : status ≡ 4 → IsScript (with_line session line) × TellsWant old new written
   pub small : status ≡ 5 → (next : Session) × (text : List ℕ) × IsStepOf session line next text × HasNoRoom old new written text
 
 -- what a call with a line tells by its status
@@ -45,7 +45,7 @@ pub record TellsLine (kept : Option Session) (line old new : List ℕ) (written 
   pub untouched : status ≡ 2 → IsUntouched old new written
   -- 3: the session's lines and this one have a fault
   pub fault : status ≡ 3 → (session : Session) × (kept ≡ Some session) × TellsFault (with_line session line) old new written
-  -- 4: the session's lines and this one may be read as a script, and memory was refused
-  pub want : status ≡ 4 → (session : Session) × (kept ≡ Some session) × IsText (with_line session line) × TellsWant old new written
+  -- 4: the session's lines and this one are a script, and memory was refused
+  pub want : status ≡ 4 → (session : Session) × (kept ≡ Some session) × IsScript (with_line session line) × TellsWant old new written
   -- 5: the text that would be told has no room
   pub small : status ≡ 5 → (next : Session) × (text : List ℕ) × IsStep kept line next text × HasNoRoom old new written text

@@ -2,7 +2,7 @@
 ghost use Rattle.std.specs.Prelude.{◌≡◌, ◌<◌, ◌≤◌, length, IfErr, IfOk, OnErr};
 ghost use Rattle.std.specs.Bool.{OnFalse, OnTrue};
 ghost use Rattle.live_script.specs.Live.{IsTold};
-ghost use Rattle.live_script.specs.Refused.{IsOfFault, IsWhy};
+ghost use Rattle.live_script.specs.Refused.{IsWhy};
 ghost use Rattle.photofleet_c.specs.Sessions.{Has, IsStepOf, with_line};
 
 use live_script::{LiveScript, Refusal, Told};
@@ -37,7 +37,7 @@ impl Session {
         ensures fits { IfOk result (λ told. OnTrue told.is_taken (length told.text.items ≤ most)) }
         ensures long { IfOk result (λ told. OnFalse told.is_taken (most < length told.text.items)) }
         ensures left { IfOk result (λ told. OnFalse told.is_taken (self.new ≡ self.old)) }
-        ensures refused { IfErr result (IsOfFault (with_line self.old line.now)) }
+        ensures refused { IfErr result (IsWhy (with_line self.old line.now)) }
         ensures kept { OnErr result (self.new ≡ self.old) }
     {
         self.live.give(line, most)
@@ -46,7 +46,7 @@ impl Session {
     /// Tells the output that a line would have, which isn't given.
     pub fn ask(&mut self, line: &[u8]) -> Result<Vec<u8>, Refusal>
         ensures told { IfOk result (λ text. IsTold self.old.live (with_line self.old line.now) text.items) }
-        ensures refused { IfErr result (IsOfFault (with_line self.old line.now)) }
+        ensures refused { IfErr result (IsWhy (with_line self.old line.now)) }
         ensures kept { self.new ≡ self.old }
     {
         self.live.ask(line)

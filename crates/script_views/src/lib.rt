@@ -25,4 +25,4 @@ pub use happenings::{
 pub use moves::push_moved;
 pub use names::{device_name, push_version};
 pub use story::push_story;
-pub use whereabouts::{Wanted, push_whereabouts};
+pub use whereabouts::{Wanted, push_whereabouts, push_whereabouts_in};

@@ -69,6 +69,17 @@ fn push_played(
     requires none { fleet.old.commands ≡ 0 }
 {
     play(fleet, script, asked.commands)?;
+    push_whereabouts_in(alloc, text, script, fleet, asked)
+}
+
+/// Appends the same text, where the script has run on that fleet. No command runs, whatever number is asked for.
+pub fn push_whereabouts_in(
+    alloc: Global,
+    text: &mut String,
+    script: &Script,
+    fleet: &Fleet,
+    asked: &Wanted,
+) -> Result<(), AllocError> {
     push_pictures(alloc, text, script, fleet, asked)?;
     push_moves(alloc, text, script, fleet, &asked.pictures)
 }

@@ -14,6 +14,7 @@ const TOLD: &str = "8 made d:1 store\n";
 pub fn verdict(alloc: Global, call: &str) -> Option<Verdict> {
     match call {
         "LiveScript::of" => Some(judged(made(alloc), true)),
+        "LiveScript::begin" => Some(judged(begun(alloc), true)),
         "LiveScript::give" | "LiveScript::ask" => Some(judged(on_script(alloc, call)?, true)),
         "plain_text" => Some(judged(printed(alloc), true)),
         _ => None,
@@ -42,6 +43,19 @@ fn made(alloc: Global) -> Option<bool> {
         Err(_) => Some(false),
     };
     drop(made);
+    right
+}
+
+fn begun(alloc: Global) -> Option<bool> {
+    mark(alloc);
+    let begun = LiveScript::begin(alloc, FOUR_DEVICES.as_bytes());
+    mark(alloc);
+    let right = match &begun {
+        Ok((live, told)) => Some(is_at_its_start(live) && told.starts_with(b"1 made a:1 store\n")),
+        Err(refusal) if is_memory(*refusal) => None,
+        Err(_) => Some(false),
+    };
+    drop(begun);
     right
 }
 

@@ -43,7 +43,7 @@ fn grows_back(grown: &mut GrowingScript) -> bool {
     is_there && grown.lines() == 3 && grown.script().commands() == 1
 }
 
-/// The text of a script that runs as it grows.
+/// The text of a script that runs as it grows, that script and its fleet.
 pub fn answer_live(alloc: Global, times: u32) -> Option<bool> {
     let made = LiveScript::of(alloc, TEXT.as_bytes());
     match made {
@@ -58,7 +58,10 @@ pub fn answer_live(alloc: Global, times: u32) -> Option<bool> {
 
 fn has_text(live: &LiveScript, times: u32) -> bool {
     for _ in 0..times {
-        if live.text() != TEXT.as_bytes() {
+        if live.text() != TEXT.as_bytes() || live.script().commands() != 1 {
+            return false;
+        }
+        if !live.fleet().is_some_and(|fleet| fleet.devices().len() == 1) {
             return false;
         }
     }

@@ -1,18 +1,17 @@
-use Rattle.std.proofs.Common.{sym, ap, subst, ◌∙◌}
-use Rattle.std.specs.Result.{is_ok}
-use Rattle.std.proofs.lemmas.Result.{IfErr-weaker}
-use Rattle.live_script.specs.Live.{with_line}
-use Rattle.live_script.specs.Refused.{IsOfFault, IsText}
-use Rattle.live_script.proofs.Readable.{script_text, why_fault}
+use Rattle.std.proofs.Common.{◌≡◌, subst}
+use Rattle.std.specs.Prelude.{Ok}
+use Rattle.fleet_model.specs.Contents.{Contents}
+use Rattle.script_reader.specs.Growing.{script_in}
+use Rattle.script_reader.specs.Reading.{script_of}
+use Rattle.live_script.specs.Live.{IsLonger, with_line}
+use Rattle.live_script.proofs.Others.{told_lines}
 use Rattle.live_script.proofs.several.with_lines.Goals as goal
 
-pub returns-in-Ok-plain_text-clause-refused : goal.returns-in-Ok-plain_text-clause-refused
-returns-in-Ok-plain_text-clause-refused c =
-    let whole = c.as_slice.ensures.value ∙ c.in-Ok.ensures ∙ ap (λ t. with_line t c.args.lines.now) c.text.ensures.text in
-    let text = subst IsText whole (script_text c.as_slice.result.now (ap is_ok c.in-Ok-plain_text.ensures.printed.read)) in
-    IfErr-weaker c.begun_anew.result _ _ (λ why want. subst (IsOfFault (with_line c.args.live.now c.args.lines.now)) (sym want) text) c.begun_anew.ensures.err
-
-pub returns-clause-refused : goal.returns-clause-refused
-returns-clause-refused c =
-    let whole = c.as_slice.ensures.value ∙ c.in-Ok.ensures ∙ ap (λ t. with_line t c.args.lines.now) c.text.ensures.text in
-    subst (λ t. IsOfFault t c.in-Err.refusal) whole (why_fault c.as_slice.result.now c.in-Err.refusal c.in-Err.ensures.refused)
+pub returns-in-Ok-begun_behind-clause-told : goal.returns-in-Ok-begun_behind-clause-told
+returns-in-Ok-begun_behind-clause-told c =
+    let printed = c.text.ensures.printed.1 in
+    let new = script_in c.in-Ok.script in
+    let same = c.text.ensures.text in
+    let read = subst (λ t. script_of (with_line t c.args.lines.now) ≡ Ok new) same c.in-Ok.ensures.grown.read in
+    let longer = subst (λ t. (old : Contents) → script_of t ≡ Ok old → IsLonger old new) same c.in-Ok.ensures.longer printed.script printed.read in
+    told_lines c.args.live.now (with_line c.args.live.now c.args.lines.now) _ _ new c.accepted_stays_sound.ensures printed read longer (c.in-Ok-begun_behind.ensures.told printed.script printed.read)
