@@ -3,6 +3,7 @@ mod asking;
 mod changing;
 mod filtering;
 mod making;
+mod pulling;
 mod showing;
 mod staging;
 mod steps;

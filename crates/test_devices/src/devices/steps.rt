@@ -1,7 +1,12 @@
 // The steps of the tables: what a device does, with the result, and what it has.
+ghost use Rattle.std.specs.Prelude.{◌≡◌, ◌<◌, ℕ, false, IfSome};
+ghost use Rattle.photo_version.specs.Version as versions;
+ghost use Rattle.item_knowledge.specs.Fragments.{knows};
+
 use super::asking::{Round, asks};
 use super::changing::{Changed, edits, makes, removes};
 use super::filtering::{hands_over, narrows, refilters};
+use super::pulling::pulls_nothing;
 use super::showing::{fills, is_gone_over, shows};
 use super::staging::{commits, copies, stages, stages_both};
 use photo_device::{Device, Held, HeldSet, Place, SharedHeld};
@@ -35,6 +40,8 @@ pub enum Step {
     StageBoth(u32, u32, bool),
     /// The device commits what is staged.
     Commit,
+    /// A pull of the device from a new one, of that number, is staged. It changes nothing.
+    PullNothing(u16),
     /// Whether the device has something staged.
     IsStaged(bool),
     /// A copy of the device changes without changing the device.
@@ -85,6 +92,7 @@ fn does_one(alloc: Global, device: &mut Device, step: &Step) -> bool {
             stages_both(alloc, device, *in_store, *in_out) == *staged
         }
         Step::Commit => commits(alloc, device),
+        Step::PullNothing(author) => pulls_nothing(alloc, device, *author),
         Step::Ask(author, rounds) => asks(alloc, device, *author, rounds),
         _ => has_come(alloc, device, step),
     }
@@ -120,10 +128,15 @@ pub fn filter_of(alloc: Global, text: &str) -> Option<Filter> {
     Filter::build(alloc, tree).ok()
 }
 
-/// A new device, by its number and its filter's text.
-pub fn opened(alloc: Global, author: u16, text: &str) -> Option<Device> {
+/// A new device, by its number and its filter's text. It knows nothing.
+pub fn opened(alloc: Global, author: u16, text: &str) -> Option<Device>
+    ensures { IfSome result (λ d. (p : ℕ) (v : versions.Version) → 0 < p → knows d.knowledge p v ≡ false) }
+{
     let filter = filter_of(alloc, text)?;
-    Device::new(alloc, Author::new(author), filter).ok()
+    match Device::new(alloc, Author::new(author), filter) {
+        Ok(device) => Some(device),
+        Err(_) => None,
+    }
 }
 
 /// The record of a picture with that rating, or of a removed picture.

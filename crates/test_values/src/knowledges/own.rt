@@ -38,7 +38,12 @@ fn shows(knowledge: &Knowledge, first: u32, second: u32) -> bool {
         && fragment.entry(1).1 == second
         && comes(&mut entries, 0, first)
         && comes(&mut entries, 1, second)
-        && entries.next_entry().is_none()
+        && is_over(&mut entries)
+}
+
+// Whether no entry comes any more, however often the cursor is asked.
+fn is_over(entries: &mut FragmentEntries<'_>) -> bool {
+    entries.next_entry().is_none() && entries.next_entry().is_none()
 }
 
 // Whether device 0's versions up to the second are known of every picture, and device 1's first of picture 7.
