@@ -1,4 +1,4 @@
-//! The fleet of a script's first commands, and what is told of the others.
+//! Builds the fleet of a script, and the text that the run of its later commands prints.
 ghost use Rattle.std.specs.Prelude.{◌≡◌, ◌≤◌, length, string_bytes, IfOk, OnOk};
 ghost use Rattle.fleet_model.specs.Limits.{max_commands};
 ghost use Rattle.live_script.specs.Live.{IsAnswered, IsToldOf, ShowsRun, first_of};
@@ -36,8 +36,8 @@ fn run_first(script: &Script, count: usize, fleet: &mut Fleet) -> Result<(), All
     Ok(())
 }
 
-/// Makes the fleet of a script's devices, runs its commands on it, and tells what the run prints of those behind the first `count`.
-/// Its only error is want of memory.
+/// Makes the fleet of a script's devices and runs all its commands on it. Returns the fleet, and what the run prints of the commands
+/// after the first `count`. Its only error is want of memory.
 pub fn told_fleet(
     alloc: Global,
     script: &Script,
@@ -56,7 +56,7 @@ pub fn told_fleet(
     }
 }
 
-// Runs the commands of a script behind the first `count` on the fleet of these, and tells what the run prints of them. Its only
+// Runs the commands of a script after the first `count` on the fleet of these, and returns what the run prints of them. Its only
 // error is want of memory.
 fn run_others(
     alloc: Global,

@@ -4,4 +4,5 @@ pub mod Adding
 pub mod Settles
 pub mod Pulls
 pub mod Ready
+pub mod Households
 pub mod Obsolete

@@ -4,6 +4,7 @@
 //! Tests: `test_receipts`.
 #![tactic(auto)]
 
+pub mod laws;
 mod meeting;
 mod receipt;
 mod receipt_sets;
